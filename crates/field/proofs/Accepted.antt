@@ -1,0 +1,26 @@
+-- What a call of a field answers once its arguments are known to be symbols. Assumes nothing.
+use mathlib.Core.Path.{_≡_, refl, sym, ap, _∙_}
+use mathlib.Core.Bool.{Bool, true, false, _&&_, not}
+use Prim.Native.Nat.{ℕ, _<_}
+use lib.Dec.{T, eqb, ltb, lt→ltb, eqb→eq, not-T}
+use Rattle.std.specs.declared.result.Result.{Result}
+use Rattle.std.specs.declared.result.Result.the-variants.{Ok}
+use Rattle.refusal.specs.declared.Refusal.{Refusal}
+use Rattle.field.specs.Answers.{provided}
+
+both-hold : (a b : Bool) → T a → T b → T (a && b)
+both-hold true b s t = t
+both-hold false b s t = s
+
+passed : (b : Bool) (v w : ℕ) → T b → v ≡ w → _≡_ {A = Result ℕ Refusal} (Ok v) (provided b w)
+passed true v w t e = ap Ok e
+passed false v w t e = absurd t
+
+pub accepted : (a q v w : ℕ) → a < q → v ≡ w → _≡_ {A = Result ℕ Refusal} (Ok v) (provided (ltb a q) w)
+accepted a q v w h e = passed _ v w (lt→ltb a q h) e
+
+pub accepted² : (a b q v w : ℕ) → a < q → b < q → v ≡ w → _≡_ {A = Result ℕ Refusal} (Ok v) (provided (ltb a q && ltb b q) w)
+accepted² a b q v w ha hb e = passed _ v w (both-hold _ _ (lt→ltb a q ha) (lt→ltb b q hb)) e
+
+pub accepted-but-0 : (a q v w : ℕ) → a < q → (a ≡ 0 → ⊥) → v ≡ w → _≡_ {A = Result ℕ Refusal} (Ok v) (provided (ltb a q && not (eqb a 0)) w)
+accepted-but-0 a q v w h not0 e = passed _ v w (both-hold _ _ (lt→ltb a q h) (not-T (eqb a 0) (λ z. not0 (eqb→eq a 0 z)))) e

@@ -1,0 +1,4 @@
+pub mod Tests
+pub mod Unique
+pub mod Finite
+pub mod Accepted
