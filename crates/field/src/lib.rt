@@ -4,6 +4,19 @@ ghost use Rattle.field.specs.Answers.{summed, multiplied, opposed, inverted};
 ghost use Rattle.field.specs.Meaning.{Meaning, IsField};
 use refusal::Refusal;
 
+mod symbols;
+mod words;
+
+pub use symbols::add;
+pub use symbols::invert;
+pub use symbols::multiply;
+pub use symbols::negate;
+pub use words::add_scaled;
+pub use words::are_symbols;
+pub use words::distance;
+pub use words::evaluate;
+pub use words::total;
+
 // A field of q symbols, the numbers 0 to q − 1.
 pub trait Field {
     ghost meaning: { Self → Meaning };
