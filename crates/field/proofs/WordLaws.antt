@@ -99,7 +99,7 @@ distance-nil (x ∷ xs) = refl
 pub distance-end : (xs ys : List ℕ) (n : ℕ) → n ≡ min (length xs) (length ys) → distance (drop n xs) (drop n ys) ≡ max (length xs) (length ys) - n
 distance-end xs ys n e =
     elim (decLe (length xs) (length ys)) [
-      yes h ↦ ap (λ d. distance d (drop n ys)) (drop-all n xs (omega arith)) ∙ length-drop n ys ∙ omega arith
+      | yes h ↦ ap (λ d. distance d (drop n ys)) (drop-all n xs (omega arith)) ∙ length-drop n ys ∙ omega arith
       | no h ↦ ap (distance (drop n xs)) (drop-all n ys (omega arith)) ∙ distance-nil (drop n xs) ∙ length-drop n xs ∙ omega arith
     ]
 

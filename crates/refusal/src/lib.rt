@@ -1,6 +1,7 @@
 // The refusals of the link: one case for each cause, with the number by which the outside knows it.
 ghost use mathlib.Core.Path.{_≡_};
 ghost use Rattle.refusal.specs.Numbers.{refusal-number};
+use std::fmt;
 
 // Why a call was turned away. A refused call leaves its buffers as they were, except where a case says otherwise.
 #[derive(Clone, Copy, PartialEq, Eq, Debug)]
@@ -61,5 +62,28 @@ impl Refusal {
             Refusal::NoCodeword(_) => 15,
             Refusal::NoEntry => 16,
         }
+    }
+}
+
+// As the console prints it.
+pub impl fmt::Display for Refusal as RefusalDisplay {
+    fn fmt<W: fmt::Write>(&self, f: &mut fmt::Formatter<W>) -> fmt::Result {
+        let number = self.number();
+        match self {
+            Refusal::NoCodeword(tries) => write!(f, "refused {number} tries {tries}"),
+            _ => write!(f, "refused {number}"),
+        }
+    }
+}
+
+#[cfg(test)]
+mod tests {
+    use super::*;
+    use std::test::*;
+
+    #[test]
+    fn shown_by_number(rt: LibcRuntime) -> Result<(), Fail> {
+        check_eq(Refusal::BadArgument.to_string(rt.alloc())?.as_str(), "refused 1")?;
+        check_eq(Refusal::NoCodeword(6).to_string(rt.alloc())?.as_str(), "refused 15 tries 6")
     }
 }

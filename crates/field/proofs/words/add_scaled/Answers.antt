@@ -24,8 +24,7 @@ loop-i-again g c =
     let in-v : i < length v = omega (arith, c .if-out-v .left) in
     let small : c .args .a < F .q = omega (arith, c .if-a-order .left, c .order .ensures) in
     let here = symbol-left (F .q) out i in-out (c .loop-i .inv .1) in
-    let term = scaled-term (g .F·Field·met .lawful (c .args .f .now)) (c .args .a) (getD out i 0) (getD v i 0) _ _ small here (symbol-at (F .q) v (subst T (c .if-not-are-symbols-2 .ensures tt) tt) i in-v) (c .multiply .ensures) (c .add .ensures) in
-    (
+    let term = scaled-term (g .F·Field·met .lawful (c .args .f .now)) (c .args .a) (getD out i 0) (getD v i 0) _ _ small here (symbol-at (F .q) v (subst T (c .if-not-are-symbols-2 .ensures tt) tt) i in-v) (c .multiply .ensures) (c .add .ensures) in (
       scaled-more F (c .args .a) _ out v i _ in-out in-v term (c .loop-i .inv .0),
       subst (λ xs. T (symbols (F .q) xs)) (sym (drop-set-lt (i + 1) out i _ (omega arith))) (subst T (symbols-more (F .q) out i in-out here) (c .loop-i .inv .1)),
     )

@@ -18,7 +18,7 @@ loop-i-again c =
     let la : i < length a = omega arith in
     let lb : i < length b = omega arith in
     elim (c .if-a-i .came) [
-      then-a-i w ↦ (omega (arith, w .count-is, distance-more a b i la lb (w .if-a-i .taken), c .loop-i .inv .0), omega (arith, w .count-is))
+      | then-a-i w ↦ (omega (arith, w .count-is, distance-more a b i la lb (w .if-a-i .taken), c .loop-i .inv .0), omega (arith, w .count-is))
       | else-a-i w ↦ (omega (arith, w .count-is, distance-same a b i la lb (w .if-a-i .left), c .loop-i .inv .0), omega (arith, w .count-is))
     ]
 
