@@ -40,11 +40,18 @@ abbrev pub value-at : Meaning → ℕ → List ℕ → ℕ
 value-at F x [] = 0
 value-at F x (c ∷ cs) = F .sum c (F .product x (value-at F x cs))
 
--- a·vs added to xs, place by place
+-- the sum of two words of one length, and a multiple of a word, place by place
+abbrev pub added : Meaning → List ℕ → List ℕ → List ℕ
+added F [] ys = []
+added F (x ∷ xs) [] = x ∷ xs
+added F (x ∷ xs) (y ∷ ys) = F .sum x y ∷ added F xs ys
+
+abbrev pub scaled : Meaning → ℕ → List ℕ → List ℕ
+scaled F a [] = []
+scaled F a (x ∷ xs) = F .product a x ∷ scaled F a xs
+
 abbrev pub plus-scaled : Meaning → ℕ → List ℕ → List ℕ → List ℕ
-plus-scaled F a [] vs = []
-plus-scaled F a (x ∷ xs) [] = x ∷ xs
-plus-scaled F a (x ∷ xs) (v ∷ vs) = F .sum x (F .product a v) ∷ plus-scaled F a xs vs
+plus-scaled F a xs vs = added F xs (scaled F a vs)
 
 -- the number of places where two words differ; a place that only one of them has counts as one
 abbrev pub distance : List ℕ → List ℕ → ℕ
