@@ -1,3 +1,4 @@
 pub mod Searching
 pub mod Facts
 pub mod Causes
+pub mod HeldNumbers

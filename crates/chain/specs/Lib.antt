@@ -2,3 +2,4 @@ pub mod Meaning
 pub mod Search
 pub mod Answers
 pub mod Follows
+pub mod Held

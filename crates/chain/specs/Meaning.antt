@@ -1,6 +1,6 @@
 -- What a chain means, and the laws owed for it. Assumes nothing.
 use mathlib.Core.Path.{_≡_}
-use mathlib.Core.List.{List}
+use mathlib.Core.List.{List, []}
 use Prim.Native.Nat.{ℕ, suc, _-_, _/_, _≤_, _<_}
 use lib.Dec.{T}
 use lib.ListN.{length}
@@ -67,3 +67,7 @@ pub record IsChain (C : Meaning) : Type 0 where
 -- what whoever supplies a chain owes: nothing for a chain with a flaw
 abbrev pub Lawful : Meaning → Type 0
 Lawful C = C .flaw ≡ None → IsChain C
+
+-- a chain with a flaw, over its field; nothing else of it is ever told
+abbrev pub flawed : fields.Meaning → Refusal → Meaning
+flawed F r = record { flaw = Some r; field = F; m = 0; s = 0; size = λ _. 0; distance = λ _. 0; encoding = λ _ _. [] }

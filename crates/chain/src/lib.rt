@@ -9,8 +9,10 @@ use field::Field;
 use refusal::Refusal;
 
 mod levels;
+mod numbers;
 
 pub use levels::radius;
+pub use numbers::LevelNumbers;
 
 // A ladder of s levels of words of m symbols. Levels are counted from 1.
 pub trait Chain {

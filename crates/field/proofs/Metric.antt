@@ -9,14 +9,10 @@ use native.Mathlib.Omega.{arith}
 use lib.Dec.{T, eqb, eqb→eq, eqb-refl}
 use lib.ListN.{length, replicate}
 use Rattle.field.specs.Words.{distance}
-use Rattle.field.proofs.Tests.{true-is}
+use Rattle.field.proofs.Tests.{true-is, is-false}
 
 pub differ : ℕ → ℕ → ℕ
 differ x y = cond (eqb x y) 0 1
-
-is-false : (b : Bool) → (T b → ⊥) → b ≡ false
-is-false true h = absurd (h tt)
-is-false false h = refl
 
 pub differ-same : (x : ℕ) → differ x x ≡ 0
 unfolding differ

@@ -23,6 +23,18 @@ true-is false t = absurd t
 pub T-is : (b : Bool) → b ≡ true → T b
 T-is b e = subst T (sym e) tt
 
+pub is-false : (b : Bool) → (T b → ⊥) → b ≡ false
+is-false true h = absurd (h tt)
+is-false false h = refl
+
+pub and-true : (a b : Bool) → T a → (a && b) ≡ b
+and-true true b t = refl
+and-true false b t = absurd t
+
+pub and-false : (a b : Bool) → (T a → ⊥) → (a && b) ≡ false
+and-false true b h = absurd (h tt)
+and-false false b h = refl
+
 -- the test passes at each number below n
 abbrev pub each : ℕ → (ℕ → Bool) → Bool
 each zero f = true

@@ -13,20 +13,8 @@ use Rattle.std.proofs.shelf.Lists.{at-drop-more, at-drop-all, drop-all, take-mo
 use Rattle.field.specs.Meaning.{Meaning, IsField}
 use Rattle.field.specs.Words.{symbols, total, value-at, plus-scaled, distance, sum-or-0, product-or-0}
 use Rattle.field.proofs.Accepted.{sum-or-0-is, product-or-0-is}
-use Rattle.field.proofs.Tests.{both-left, both-right, true-is}
+use Rattle.field.proofs.Tests.{both-left, both-right, true-is, is-false, and-true, and-false}
 use Rattle.field.proofs.Unique.{zero-small}
-
-is-false : (b : Bool) → (T b → ⊥) → b ≡ false
-is-false true h = absurd (h tt)
-is-false false h = refl
-
-and-true : (a b : Bool) → T a → (a && b) ≡ b
-and-true true b t = refl
-and-true false b t = absurd t
-
-and-false : (a b : Bool) → (T a → ⊥) → (a && b) ≡ false
-and-false true b h = absurd (h tt)
-and-false false b h = refl
 
 -- one symbol more, and one that is none
 module _ (q : ℕ) (xs : List ℕ) (i : ℕ) (within : i < length xs) where
