@@ -9,8 +9,9 @@ use lib.Dec.{T, eqb, leb, leb→le, le→leb, eqb→eq, eqb-refl}
 use lib.ListN.{length, replicate}
 use Rattle.std.specs.declared.option.Option.{Option}
 use Rattle.std.specs.declared.option.Option.the-variants.{Some, None}
-use Rattle.field.specs.Words.{symbols, added, scaled, distance as differing}
-use Rattle.field.proofs.Metric.{distance-sym, distance-zero, distance-self, distance-triangle}
+use Rattle.field.specs.Places.{distance as differing}
+use Rattle.field.specs.Words.{symbols, added, scaled}
+use Rattle.field.proofs.Metric.{eqb-tells, distance-zero, distance-itself, nearest-only-half}
 use Rattle.field.proofs.Unique.{zero-small}
 use Rattle.field.proofs.Vectors.{length-added, length-scaled, added-closed, scaled-closed, scaled-zero, symbols-replicate}
 use Rattle.chain.specs.Answers.{message-of, message-near, words-equal}
@@ -19,26 +20,9 @@ use Rattle.chain.specs.Meaning.{Meaning, IsChain, Level, Message, OfLevel, Wor
 use Rattle.chain.specs.Search.{all-words, first-that}
 use Rattle.chain.proofs.Searching.{In, Found, all-words-has, all-words-are, first-that-some, first-that-none}
 
--- two words less than d apart, when different ones are at least d apart, are one
 module _ {C : Meaning} (lawful : IsChain C) (i : ℕ) (level : Level C i) where
-  long : (w : List ℕ) → OfLevel C i w → length w ≡ C .m
-  long w h = subst (λ v. length v ≡ C .m) (h .2) (lawful .encodes i level (h .0) (h .1) .long)
-
-  close-is-same : (v w : List ℕ) → OfLevel C i v → OfLevel C i w → differing v w < C .distance i → v ≡ w
-  close-is-same v w hv hw near =
-      elim (decLe (differing v w) 0) [
-        yes z ↦ distance-zero v w (omega arith)
-        | no far ↦
-          absurd (let least : C .distance i ≤ differing v w = lawful .apart i level v w hv hw (λ e. far (subst (λ x. differing v x ≤ 0) e (let z = distance-self v in omega arith))) in
-          omega arith)
-      ]
-
-  pub one-near : (b v w : List ℕ) → length b ≡ C .m → OfLevel C i v → OfLevel C i w → differing v b ≤ radius (C .distance i) → differing w b ≤ radius (C .distance i) → v ≡ w
-  one-near b v w long-b hv hw near-v near-w =
-      let triangle : differing v w ≤ differing v b + differing b w = distance-triangle v b w (long v hv ∙ sym long-b) (long-b ∙ sym (long w hw)) in
-      let flip : differing b w ≡ differing w b = distance-sym b w in
-      let some : 1 ≤ C .distance i = lawful .distance-least i level in
-      close-is-same v w hv hw (omega arith)
+  pub one-near : (b v w : List ℕ) → OfLevel C i v → OfLevel C i w → differing v b ≤ radius (C .distance i) → differing w b ≤ radius (C .distance i) → v ≡ w
+  one-near b v w hv hw near-v near-w = nearest-only-half eqb eqb-tells (OfLevel C i) (C .distance i) (lawful .distance-least i level) (lawful .apart i level) b v w hv hw near-v near-w
 
   pub message-added : (xs ys : List ℕ) → Message C i xs → Message C i ys → Message C i (added (C .field) xs ys)
   message-added xs ys hx hy = record { long = length-added (C .field) xs ys ∙ hx .long; all = added-closed (lawful .over-field) xs ys (hx .all) (hy .all) }
@@ -78,12 +62,12 @@ module _ {C : Meaning} (lawful : IsChain C) (i : ℕ) (level : Level C i) where
   listed-message : (xs : List ℕ) → In xs (all-words (C .field .q) (C .size i)) → Message C i xs
   listed-message xs h = let r = all-words-are (C .field .q) (C .size i) xs h in record { long = r .0; all = r .1 }
 
-  pub message-near-is : (b xs : List ℕ) → length b ≡ C .m → Message C i xs → differing (C .encoding i xs) b ≤ radius (C .distance i) → message-near C i b ≡ Some xs
+  pub message-near-is : (b xs : List ℕ) → Message C i xs → differing (C .encoding i xs) b ≤ radius (C .distance i) → message-near C i b ≡ Some xs
   unfolding message-near
-  message-near-is b xs long-b hx near =
+  message-near-is b xs hx near =
       let r = first-that-some (λ ys. leb (differing (C .encoding i ys) b) (radius (C .distance i))) (all-words (C .field .q) (C .size i)) xs (message-listed xs hx) (le→leb _ _ near) in
       let hr = listed-message (r .word) (r .listed) in
-      let same = one-near b _ _ long-b (r .word, hr, refl) (xs, hx, refl) (leb→le _ _ (r .passes)) near in
+      let same = one-near b _ _ (r .word, hr, refl) (xs, hx, refl) (leb→le _ _ (r .passes)) near in
       r .is ∙ ap Some (lawful .injective i level (r .word) xs hr hx same)
 
   pub message-near-none : (b : List ℕ) → ((xs : List ℕ) → Message C i xs → differing (C .encoding i xs) b ≤ radius (C .distance i) → ⊥) → message-near C i b ≡ None
@@ -93,10 +77,10 @@ module _ {C : Meaning} (lawful : IsChain C) (i : ℕ) (level : Level C i) where
   pub message-of-is : (w xs : List ℕ) → Message C i xs → C .encoding i xs ≡ w → message-of C i w ≡ Some xs
   unfolding message-of
   message-of-is w xs hx e =
-      let r = first-that-some (λ ys. words-equal (C .encoding i ys) w) (all-words (C .field .q) (C .size i)) xs (message-listed xs hx) (subst (λ d. T (eqb d 0)) (sym (ap (λ v. differing v w) e ∙ distance-self w)) tt) in
+      let r = first-that-some (λ ys. words-equal (C .encoding i ys) w) (all-words (C .field .q) (C .size i)) xs (message-listed xs hx) (subst (λ d. T (eqb d 0)) (sym (ap (λ v. differing v w) e ∙ distance-itself eqb eqb-tells w)) tt) in
       let hr = listed-message (r .word) (r .listed) in
-      r .is ∙ ap Some (lawful .injective i level (r .word) xs hr hx (distance-zero _ w (eqb→eq _ 0 (r .passes)) ∙ sym e))
+      r .is ∙ ap Some (lawful .injective i level (r .word) xs hr hx (distance-zero eqb eqb-tells _ w (eqb→eq _ 0 (r .passes)) ∙ sym e))
 
   pub message-of-none : (w : List ℕ) → ((xs : List ℕ) → Message C i xs → C .encoding i xs ≡ w → ⊥) → message-of C i w ≡ None
   unfolding message-of
-  message-of-none w h = first-that-none _ _ (λ xs listed t. h xs (listed-message xs listed) (distance-zero _ w (eqb→eq _ 0 t)))
+  message-of-none w h = first-that-none _ _ (λ xs listed t. h xs (listed-message xs listed) (distance-zero eqb eqb-tells _ w (eqb→eq _ 0 t)))

@@ -12,7 +12,8 @@ use Rattle.std.specs.declared.result.Result.{Result}
 use Rattle.std.specs.declared.result.Result.the-variants.{Ok, Err}
 use Rattle.refusal.specs.declared.Refusal.{Refusal}
 use Rattle.refusal.specs.declared.Refusal.the-variants.{BadArgument, NoLevelWord, ShortScratch}
-use Rattle.field.specs.Words.{symbols, distance}
+use Rattle.field.specs.Places.{distance}
+use Rattle.field.specs.Words.{symbols}
 use Rattle.chain.specs.Meaning.{Meaning, radius}
 use Rattle.chain.specs.Search.{all-words, first-that}
 

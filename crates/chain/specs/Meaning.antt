@@ -9,7 +9,8 @@ use Rattle.std.specs.declared.option.Option.the-variants.{Some, None}
 use Rattle.refusal.specs.declared.Refusal.{Refusal}
 use Rattle.field.specs.Meaning.{IsField}
 use Rattle.field.specs.Meaning as fields
-use Rattle.field.specs.Words.{symbols, added, scaled, distance as differing}
+use Rattle.field.specs.Places.{distance as differing}
+use Rattle.field.specs.Words.{symbols, added, scaled}
 
 -- A chain is a ladder of nested codes over one field: s levels, counted from 1, of words of m symbols.
 -- Level i has a size and a distance, and encodes messages of as many symbols as its size.

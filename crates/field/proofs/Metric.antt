@@ -1,87 +1,167 @@
--- The distance of words is a metric. Assumes nothing.
+-- The distance is a metric on words, and a word has at most one codeword within half the minimum distance. Assumes nothing.
 use mathlib.Core.Path.{_≡_, refl, sym, ap, ap₂, subst, _∙_}
-use mathlib.Core.Logic.{_⊎_, inl, inr}
-use mathlib.Core.Bool.{Bool, true, false, cond}
-use mathlib.Core.List.{List, [], _∷_, _++_}
-use Prim.Native.Nat.{ℕ, zero, suc, _+_, _≤_, _<_}
+use mathlib.Core.Logic.{_≢_}
+use mathlib.Core.Bool.{Bool, true, false}
+use mathlib.Core.List.{List, [], _∷_, _++_, map}
+use Prim.Native.Nat.{ℕ, suc, _+_, _-_, _/_, _≤_, _<_}
 use native.Mathlib.Decide.{ℕ-discrete}
 use native.Mathlib.Omega.{arith}
 use lib.Dec.{T, eqb, eqb→eq, eqb-refl}
-use lib.ListN.{length, replicate}
-use Rattle.field.specs.Words.{distance}
-use Rattle.field.proofs.Tests.{true-is, is-false}
+use lib.ListN.{length}
+use Rattle.field.specs.Places.{unless, distance-by, Tells}
 
-pub differ : ℕ → ℕ → ℕ
-differ x y = cond (eqb x y) 0 1
+pub bool-path : (b c : Bool) → (T b → T c) → (T c → T b) → b ≡ c
+bool-path true true f g = refl
+bool-path true false f g = absurd (f tt)
+bool-path false true f g = absurd (g tt)
+bool-path false false f g = refl
 
-pub differ-same : (x : ℕ) → differ x x ≡ 0
-unfolding differ
-differ-same x = ap (λ b. cond b 0 1) (true-is _ (eqb-refl x))
+-- the test of equality of symbols
+pub eqb-tells : Tells eqb
+eqb-tells = record { equal = eqb→eq; itself = eqb-refl }
 
-pub differ-other : (x y : ℕ) → (x ≡ y → ⊥) → differ x y ≡ 1
-unfolding differ
-differ-other x y ne = ap (λ b. cond b 0 1) (is-false _ (λ t. ne (eqb→eq x y t)))
+pub unless-add : (b : Bool) (i j k : ℕ) → k ≡ i + j → unless b k ≡ unless b i + j
+unless-add true i j k e = e
+unless-add false i j k e = omega arith
 
-pub differ-zero : (x y : ℕ) → differ x y ≡ 0 → x ≡ y
-differ-zero x y e = elim (ℕ-discrete x y) [ yes p ↦ p | no h ↦ absurd (let z : _≡_ {A = ℕ} 1 0 = sym (differ-other x y h) ∙ e in omega arith) ]
+pub none-step : (b : Bool) (n : ℕ) → unless b n ≡ 0 → T b × (n ≡ 0)
+none-step true n e = (tt, e)
+none-step false n e = absurd (omega arith)
 
-differ-sym : (x y : ℕ) → differ x y ≡ differ y x
-differ-sym x y = elim (ℕ-discrete x y) [ yes p ↦ ap₂ differ p (sym p) | no h ↦ differ-other x y h ∙ sym (differ-other y x (λ p. h (sym p))) ]
+most-step : (b : Bool) (i n : ℕ) → i ≤ n → unless b i ≤ suc n
+most-step true i n l = omega arith
+most-step false i n l = omega arith
 
-differ-triangle : (x y z : ℕ) → differ x z ≤ differ x y + differ y z
-differ-triangle x y z =
-    elim (ℕ-discrete x z) [
-      yes p ↦ omega (arith, ap (λ w. differ x w) (sym p) ∙ differ-same x)
-      | no h ↦ elim (ℕ-discrete x y) [
-        yes p ↦ omega (arith, ap (λ w. differ w z) p)
-        | no k ↦ omega (arith, differ-other x y k, differ-other x z h)
-      ]
-    ]
+module _ {X : Type 0} where
+  pub distance-append : (same : X → X → Bool) (xs ys us vs : List X) → length xs ≡ length us → distance-by same (xs ++ ys) (us ++ vs) ≡ distance-by same xs us + distance-by same ys vs
+  distance-append same [] ys [] vs e = omega arith
+  distance-append same [] ys (u ∷ us) vs e = absurd (omega arith)
+  distance-append same (x ∷ xs) ys [] vs e = absurd (omega arith)
+  distance-append same (x ∷ xs) ys (u ∷ us) vs e = unless-add (same x u) _ _ _ (distance-append same xs ys us vs (omega arith))
 
-pub distance-cons : (x y : ℕ) (xs ys : List ℕ) → distance (x ∷ xs) (y ∷ ys) ≡ differ x y + distance xs ys
-unfolding differ
-distance-cons x y xs ys = refl
+  -- two words of one length differ in no more places than they have
+  pub distance-most : (same : X → X → Bool) (xs ys : List X) → length xs ≡ length ys → distance-by same xs ys ≤ length xs
+  distance-most same [] ys e = omega arith
+  distance-most same (x ∷ xs) [] e = omega arith
+  distance-most same (x ∷ xs) (y ∷ ys) e = most-step (same x y) _ _ (distance-most same xs ys (omega arith))
 
-pub distance-self : (xs : List ℕ) → distance xs xs ≡ 0
-distance-self [] = refl
-distance-self (x ∷ xs) = distance-cons x x xs xs ∙ ap₂ _+_ (differ-same x) (distance-self xs)
+triangle-step : (a b c : Bool) (i j k : ℕ) → (T a → T b → T c) → k ≤ i + j → unless c k ≤ unless a i + unless b j
+triangle-step true true true i j k f l = l
+triangle-step true true false i j k f l = absurd (f tt tt)
+triangle-step true false true i j k f l = omega arith
+triangle-step true false false i j k f l = omega arith
+triangle-step false true true i j k f l = omega arith
+triangle-step false true false i j k f l = omega arith
+triangle-step false false true i j k f l = omega arith
+triangle-step false false false i j k f l = omega arith
 
--- two words at distance 0 are one
-pub distance-zero : (xs ys : List ℕ) → distance xs ys ≡ 0 → xs ≡ ys
-distance-zero [] [] e = refl
-distance-zero [] (y ∷ ys) e = absurd (omega arith)
-distance-zero (x ∷ xs) [] e = absurd (omega arith)
-distance-zero (x ∷ xs) (y ∷ ys) e =
-    let split = distance-cons x y xs ys in
-    ap₂ _∷_ (differ-zero x y (omega (arith, split))) (distance-zero xs ys (omega (arith, split)))
+surplus-step : (b : Bool) (i n m : ℕ) → n ≤ m + i → suc n ≤ suc m + unless b i
+surplus-step true i n m l = omega arith
+surplus-step false i n m l = omega arith
 
-pub distance-sym : (xs ys : List ℕ) → distance xs ys ≡ distance ys xs
-distance-sym [] [] = refl
-distance-sym [] (y ∷ ys) = refl
-distance-sym (x ∷ xs) [] = refl
-distance-sym (x ∷ xs) (y ∷ ys) = distance-cons x y xs ys ∙ ap₂ _+_ (differ-sym x y) (distance-sym xs ys) ∙ sym (distance-cons y x ys xs)
+over-step : (b : Bool) (i n m : ℕ) → n ≤ i + m → suc n ≤ unless b i + suc m
+over-step true i n m l = omega arith
+over-step false i n m l = omega arith
 
--- the distance is at least the difference of the lengths, so only words of one length are compared below
-pub distance-triangle : (xs ys zs : List ℕ) → length xs ≡ length ys → length ys ≡ length zs → distance xs zs ≤ distance xs ys + distance ys zs
-distance-triangle [] [] [] e f = omega arith
-distance-triangle [] [] (z ∷ zs) e f = absurd (omega arith)
-distance-triangle [] (y ∷ ys) zs e f = absurd (omega arith)
-distance-triangle (x ∷ xs) [] zs e f = absurd (omega arith)
-distance-triangle (x ∷ xs) (y ∷ ys) [] e f = absurd (omega arith)
-distance-triangle (x ∷ xs) (y ∷ ys) (z ∷ zs) e f =
-    omega (arith, distance-cons x z xs zs, distance-cons x y xs ys, distance-cons y z ys zs, differ-triangle x y z, distance-triangle xs ys zs (omega arith) (omega arith))
+between-step : (b : Bool) (k n m : ℕ) → k ≤ n + m → unless b k ≤ suc n + suc m
+between-step true k n m l = omega arith
+between-step false k n m l = omega arith
 
-pub distance-most : (xs ys : List ℕ) → length xs ≡ length ys → distance xs ys ≤ length xs
-distance-most [] [] e = omega arith
-distance-most [] (y ∷ ys) e = absurd (omega arith)
-distance-most (x ∷ xs) [] e = absurd (omega arith)
-distance-most (x ∷ xs) (y ∷ ys) e =
-    let one : differ x y ≤ 1 = elim (ℕ-discrete x y) [ yes p ↦ omega (arith, ap (λ w. differ x w) (sym p) ∙ differ-same x) | no h ↦ omega (arith, differ-other x y h) ] in
-    omega (arith, distance-cons x y xs ys, one, distance-most xs ys (omega arith))
+module _ {X : Type 0} (same : X → X → Bool) (tells : Tells same) where
+  pub same-sym : (a b : X) → same a b ≡ same b a
+  same-sym a b =
+      bool-path (same a b) (same b a)
+      (λ t. subst (λ z. T (same z a)) (tells .equal a b t) (tells .itself a))
+      (λ t. subst (λ z. T (same z b)) (tells .equal b a t) (tells .itself b))
 
-pub distance-append : (xs ys us vs : List ℕ) → length xs ≡ length ys → distance (xs ++ us) (ys ++ vs) ≡ distance xs ys + distance us vs
-distance-append [] [] us vs e = omega arith
-distance-append [] (y ∷ ys) us vs e = absurd (omega arith)
-distance-append (x ∷ xs) [] us vs e = absurd (omega arith)
-distance-append (x ∷ xs) (y ∷ ys) us vs e =
-    omega (arith, distance-cons x y (xs ++ us) (ys ++ vs), distance-cons x y xs ys, distance-append xs ys us vs (omega arith))
+  pub distance-sym : (xs ys : List X) → distance-by same xs ys ≡ distance-by same ys xs
+  distance-sym [] [] = refl
+  distance-sym [] (y ∷ ys) = refl
+  distance-sym (x ∷ xs) [] = refl
+  distance-sym (x ∷ xs) (y ∷ ys) = ap (λ b. unless b (distance-by same xs ys)) (same-sym x y) ∙ ap (unless (same y x)) (distance-sym xs ys)
+
+  -- distance 0 is equality
+  pub distance-zero : (xs ys : List X) → distance-by same xs ys ≡ 0 → xs ≡ ys
+  distance-zero [] [] e = refl
+  distance-zero [] (y ∷ ys) e = absurd (omega arith)
+  distance-zero (x ∷ xs) [] e = absurd (omega arith)
+  distance-zero (x ∷ xs) (y ∷ ys) e =
+      let s = none-step (same x y) (distance-by same xs ys) e in
+      ap₂ _∷_ (tells .equal x y (s .0)) (distance-zero xs ys (s .1))
+
+  itself-step : (b : Bool) (n : ℕ) → T b → n ≡ 0 → unless b n ≡ 0
+  itself-step true n t e = e
+  itself-step false n t e = absurd t
+
+  pub distance-itself : (xs : List X) → distance-by same xs xs ≡ 0
+  distance-itself [] = refl
+  distance-itself (x ∷ xs) = itself-step (same x x) _ (tells .itself x) (distance-itself xs)
+
+  nothing-between : (xs : List X) → distance-by same xs [] ≡ length xs
+  nothing-between [] = refl
+  nothing-between (x ∷ xs) = refl
+
+  reach : (ys zs : List X) → length zs ≤ length ys + distance-by same ys zs
+  reach [] zs = omega arith
+  reach (y ∷ ys) [] = omega arith
+  reach (y ∷ ys) (z ∷ zs) = surplus-step (same y z) _ _ _ (reach ys zs)
+
+  reach-back : (xs ys : List X) → length xs ≤ distance-by same xs ys + length ys
+  reach-back xs ys = let h = reach ys xs in let s = distance-sym xs ys in omega arith
+
+  pub triangle : (xs ys zs : List X) → distance-by same xs zs ≤ distance-by same xs ys + distance-by same ys zs
+  triangle [] ys zs = reach ys zs
+  triangle (x ∷ xs) [] [] = omega arith
+  triangle (x ∷ xs) [] (z ∷ zs) =
+      let a = triangle xs [] zs in
+      let b = nothing-between xs in
+      between-step (same x z) _ _ _ (omega arith)
+  triangle (x ∷ xs) (y ∷ ys) [] = over-step (same x y) _ _ _ (reach-back xs ys)
+  triangle (x ∷ xs) (y ∷ ys) (z ∷ zs) =
+      triangle-step (same x y) (same y z) (same x z) _ _ _
+      (λ p q. subst (λ w. T (same x w)) (tells .equal y z q) p)
+      (triangle xs ys zs)
+
+  pub words-same? : (xs ys : List X) → Dec (xs ≡ ys)
+  words-same? xs ys = go (ℕ-discrete (distance-by same xs ys) 0)
+    where
+      go : Dec (distance-by same xs ys ≡ 0) → Dec (xs ≡ ys)
+      go (yes e) = yes (distance-zero xs ys e)
+      go (no n) = no (λ e. n (subst (λ z. distance-by same xs z ≡ 0) e (distance-itself xs)))
+
+  -- In a set of words whose different members have distance at least d, at most one lies within t of a word, if 2t < d.
+  pub nearest-only : (C : List X → Type 0) (d t : ℕ) → ((u v : List X) → C u → C v → u ≢ v → d ≤ distance-by same u v) → t + t < d → (y u v : List X) → C u → C v → distance-by same u y ≤ t → distance-by same v y ≤ t → u ≡ v
+  nearest-only C d t apart l y u v cu cv a b = go (words-same? u v)
+    where
+      go : Dec (u ≡ v) → u ≡ v
+      go (yes e) = e
+      go (no n) =
+          let p = apart u v cu cv n in
+          let q = triangle u y v in
+          let s = distance-sym y v in
+          absurd (omega arith)
+
+  pub nearest-only-half : (C : List X → Type 0) (d : ℕ) → 0 < d → ((u v : List X) → C u → C v → u ≢ v → d ≤ distance-by same u v) → (y u v : List X) → C u → C v → distance-by same u y ≤ (d - 1) / 2 → distance-by same v y ≤ (d - 1) / 2 → u ≡ v
+  nearest-only-half C d p apart y u v cu cv a b = nearest-only C d ((d - 1) / 2) apart (omega arith) y u v cu cv a b
+
+-- a map that keeps different elements different keeps the distance
+module _ {X Y : Type 0} (same : X → X → Bool) (tells : Tells same) (also : Y → Y → Bool) (tells-also : Tells also) (h : X → Y) (injective : (a b : X) → h a ≡ h b → a ≡ b) where
+  same-map : (a b : X) → also (h a) (h b) ≡ same a b
+  same-map a b =
+      bool-path (also (h a) (h b)) (same a b)
+      (λ t. subst (λ z. T (same a z)) (injective a b (tells-also .equal (h a) (h b) t)) (tells .itself a))
+      (λ t. subst (λ z. T (also (h a) (h z))) (tells .equal a b t) (tells-also .itself (h a)))
+
+  pub distance-map : (xs ys : List X) → distance-by also (map h xs) (map h ys) ≡ distance-by same xs ys
+  distance-map [] [] = refl
+  distance-map [] (y ∷ ys) = ap suc (distance-map [] ys)
+  distance-map (x ∷ xs) [] = ap suc (sym (empty-right (map h xs)) ∙ distance-map xs [] ∙ empty-same xs)
+    where
+      empty-right : (zs : List Y) → distance-by also zs [] ≡ length zs
+      empty-right [] = refl
+      empty-right (z ∷ zs) = refl
+
+      empty-same : (zs : List X) → distance-by same zs [] ≡ length zs
+      empty-same [] = refl
+      empty-same (z ∷ zs) = refl
+  distance-map (x ∷ xs) (y ∷ ys) = ap (λ b. unless b (distance-by also (map h xs) (map h ys))) (same-map x y) ∙ ap (unless (same x y)) (distance-map xs ys)

@@ -11,7 +11,8 @@ use lib.ListN.{length, getD, take, drop, set, length-drop, length-take, length-s
 use lib.Seq.{take-all}
 use Rattle.std.proofs.shelf.Lists.{at-drop-more, at-drop-all, drop-all, take-more-set, drop-set-lt, drop-more, length-append, append-assoc}
 use Rattle.field.specs.Meaning.{Meaning, IsField}
-use Rattle.field.specs.Words.{symbols, total, value-at, plus-scaled, distance, sum-or-0, product-or-0}
+use Rattle.field.specs.Places.{unless, distance}
+use Rattle.field.specs.Words.{symbols, total, value-at, plus-scaled, sum-or-0, product-or-0}
 use Rattle.field.proofs.Accepted.{sum-or-0-is, product-or-0-is}
 use Rattle.field.proofs.Tests.{both-left, both-right, true-is, is-false, and-true, and-false}
 use Rattle.field.proofs.Unique.{zero-small}
@@ -71,13 +72,12 @@ module _ {F : Meaning} (lawful : IsField F) (xs : List ℕ) (all : T (symbols (F
 pub distance-same : (xs ys : List ℕ) (i : ℕ) → i < length xs → i < length ys → getD xs i 0 ≡ getD ys i 0 → distance (drop i xs) (drop i ys) ≡ distance (drop (i + 1) xs) (drop (i + 1) ys)
 distance-same xs ys i hx hy e =
     ap₂ distance (drop-more xs i 0 hx) (drop-more ys i 0 hy)
-    ∙ ap (λ b. cond b 0 1 + distance (drop (i + 1) xs) (drop (i + 1) ys)) (true-is _ (subst (λ y. T (eqb (getD xs i 0) y)) e (eqb-refl _)))
-    ∙ zero-add _
+    ∙ ap (λ b. unless b (distance (drop (i + 1) xs) (drop (i + 1) ys))) (true-is _ (subst (λ y. T (eqb (getD xs i 0) y)) e (eqb-refl _)))
 
-pub distance-more : (xs ys : List ℕ) (i : ℕ) → i < length xs → i < length ys → (getD xs i 0 ≡ getD ys i 0 → ⊥) → distance (drop i xs) (drop i ys) ≡ 1 + distance (drop (i + 1) xs) (drop (i + 1) ys)
+pub distance-more : (xs ys : List ℕ) (i : ℕ) → i < length xs → i < length ys → (getD xs i 0 ≡ getD ys i 0 → ⊥) → distance (drop i xs) (drop i ys) ≡ suc (distance (drop (i + 1) xs) (drop (i + 1) ys))
 distance-more xs ys i hx hy ne =
     ap₂ distance (drop-more xs i 0 hx) (drop-more ys i 0 hy)
-    ∙ ap (λ b. cond b 0 1 + distance (drop (i + 1) xs) (drop (i + 1) ys)) (is-false _ (λ t. ne (eqb→eq _ _ t)))
+    ∙ ap (λ b. unless b (distance (drop (i + 1) xs) (drop (i + 1) ys))) (is-false _ (λ t. ne (eqb→eq _ _ t)))
 
 pub distance-nil : (xs : List ℕ) → distance xs [] ≡ length xs
 distance-nil [] = refl

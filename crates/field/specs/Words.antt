@@ -53,12 +53,6 @@ scaled F a (x ∷ xs) = F .product a x ∷ scaled F a xs
 abbrev pub plus-scaled : Meaning → ℕ → List ℕ → List ℕ → List ℕ
 plus-scaled F a xs vs = added F xs (scaled F a vs)
 
--- the number of places where two words differ; a place that only one of them has counts as one
-abbrev pub distance : List ℕ → List ℕ → ℕ
-distance [] ys = length ys
-distance (x ∷ xs) [] = suc (length xs)
-distance (x ∷ xs) (y ∷ ys) = cond (eqb x y) 0 1 + distance xs ys
-
 -- What the calls on slices answer, for every argument.
 
 abbrev pub totalled : Meaning → List ℕ → Result ℕ Refusal

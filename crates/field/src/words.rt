@@ -2,7 +2,8 @@
 ghost use mathlib.Core.Bool.{cond, _&&_};
 ghost use mathlib.Core.Path.{_≡_};
 ghost use lib.Dec.{eqb};
-ghost use Rattle.field.specs.Words.{symbols, distance as differing, totalled, evaluated, addable, done-if, plus-scaled};
+ghost use Rattle.field.specs.Places.{distance as differing};
+ghost use Rattle.field.specs.Words.{symbols, totalled, evaluated, addable, done-if, plus-scaled};
 use crate::Field;
 use crate::symbols::add;
 use crate::symbols::multiply;

@@ -55,6 +55,6 @@ rising-end ks i past = short (drop (i - 1) ks) (let e = length-drop (i - 1) ks i
 pub take-four : (s n : ℕ) (ks : List ℕ) → length ks ≡ 4 → n ≡ min s 4 → take (n - 0) ks ≡ take s ks
 take-four s n ks long e =
     elim (decLe s 4) [
-      yes h ↦ let same : n - 0 ≡ s = omega arith in ap (λ k. take k ks) same
+      | yes h ↦ let same : n - 0 ≡ s = omega arith in ap (λ k. take k ks) same
       | no h ↦ take-all (n - 0) ks (omega arith) ∙ sym (take-all s ks (omega arith))
     ]

@@ -30,7 +30,12 @@ impl<F: Field> Plain<F> {
         for i in 0..s {
             held[i] = kinds[i];
         }
-        Plain { field, m, s, kinds: held }
+        Plain {
+            field,
+            m,
+            s,
+            kinds: held,
+        }
     }
 
     pub(crate) fn levels_held(&self) -> &[u8]
@@ -60,7 +65,9 @@ fn do_fit<F: Field>(f: &F, m: usize, kinds: &[u8]) -> bool
     requires { ⌜ m ≤ 32 ⌝ }
     ensures { λ r. ⌜ r ≡ kinds-fit (F·Field .meaning (now (f .entry))) m (now (kinds .entry)) ⌝ }
 {
-    are_known(kinds) && never_fall(kinds) && (!(occurs(1, kinds) && occurs(2, kinds)) || adds_to_zero(f, m))
+    are_known(kinds)
+        && never_fall(kinds)
+        && (!(occurs(1, kinds) && occurs(2, kinds)) || adds_to_zero(f, m))
 }
 
 fn are_known(kinds: &[u8]) -> bool

@@ -83,7 +83,13 @@ mod tests {
 
     #[test]
     fn shown_by_number(rt: LibcRuntime) -> Result<(), Fail> {
-        check_eq(Refusal::BadArgument.to_string(rt.alloc())?.as_str(), "refused 1")?;
-        check_eq(Refusal::NoCodeword(6).to_string(rt.alloc())?.as_str(), "refused 15 tries 6")
+        check_eq(
+            Refusal::BadArgument.to_string(rt.alloc())?.as_str(),
+            "refused 1",
+        )?;
+        check_eq(
+            Refusal::NoCodeword(6).to_string(rt.alloc())?.as_str(),
+            "refused 15 tries 6",
+        )
     }
 }

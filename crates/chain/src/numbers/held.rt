@@ -10,12 +10,18 @@ impl LevelNumbers {
     {
         let mut array = [0; 4];
         if numbers.len() > 4 {
-            return LevelNumbers { count: 0, numbers: array };
+            return LevelNumbers {
+                count: 0,
+                numbers: array,
+            };
         }
         for i in 0..numbers.len() {
             array[i] = numbers[i];
         }
-        LevelNumbers { count: numbers.len(), numbers: array }
+        LevelNumbers {
+            count: numbers.len(),
+            numbers: array,
+        }
     }
 
     pub fn as_slice(&self) -> &[u8]

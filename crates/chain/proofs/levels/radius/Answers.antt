@@ -11,14 +11,14 @@ pub returns-in-Ok : need.returns-in-Ok
 returns-in-Ok g c =
     let C = g .C·Chain .meaning (c .args .c .now) in
     record {
-  value = ap (λ x. Ok (x / 2)) (c .saturating-sub .ensures) ∙ told-radius (C .flaw) (is-level C (c .args .level)) (C .distance (c .args .level)) _ (c .in-Ok .ensures tt);
-  follows = λ none i level. level-facts (g .C·Chain·met .lawful (c .args .c .now) none) i level;
-}
+      value = ap (λ x. Ok (x / 2)) (c .saturating-sub .ensures) ∙ told-radius (C .flaw) (is-level C (c .args .level)) (C .distance (c .args .level)) _ (c .in-Ok .ensures tt);
+      follows = λ none i level. level-facts (g .C·Chain·met .lawful (c .args .c .now) none) i level;
+    }
 
 pub returns-in-Err : need.returns-in-Err
 returns-in-Err g c =
     let C = g .C·Chain .meaning (c .args .c .now) in
     record {
-  value = told-refusal (C .flaw) (is-level C (c .args .level)) (C .distance (c .args .level)) _ _ (c .in-Err .ensures tt);
-  follows = λ none i level. level-facts (g .C·Chain·met .lawful (c .args .c .now) none) i level;
-}
+      value = told-refusal (C .flaw) (is-level C (c .args .level)) (C .distance (c .args .level)) _ _ (c .in-Err .ensures tt);
+      follows = λ none i level. level-facts (g .C·Chain·met .lawful (c .args .c .now) none) i level;
+    }

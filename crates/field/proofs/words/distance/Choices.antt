@@ -1,7 +1,7 @@
 use mathlib.Core.Path.{_≡_}
 use Prim.Native.Nat.{_+_, _≤_}
 use lib.ListN.{drop}
-use Rattle.field.specs.Words.{distance}
+use Rattle.field.specs.Places.{distance}
 use Rattle.field.proofs.words.distance.Given as given
 
 -- what was counted, and what is left

@@ -1,0 +1,9 @@
+pub mod FieldOn
+pub mod Symbols
+pub mod Vectors
+pub mod Polynomials
+pub mod Distance
+pub mod Systems
+pub mod Correction
+pub mod Matrices
+pub mod Theorems
