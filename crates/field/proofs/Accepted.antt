@@ -29,7 +29,7 @@ pub accepted-but-0 : (a q v w : ℕ) → a < q → (a ≡ 0 → ⊥) → v ≡ w
 accepted-but-0 a q v w h not0 e = passed _ v w (both-hold _ _ (lt→ltb a q h) (not-T (eqb a 0) (λ z. not0 (eqb→eq a 0 z)))) e
 
 -- the total functions, at symbols
-value-is : (b : Bool) (v : ℕ) → T b → valueOr (provided b v) 0 ≡ v
+pub value-is : (b : Bool) (v : ℕ) → T b → valueOr (provided b v) 0 ≡ v
 value-is true v t = refl
 value-is false v t = absurd t
 

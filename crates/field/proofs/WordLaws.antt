@@ -83,6 +83,9 @@ pub distance-nil : (xs : List ℕ) → distance xs [] ≡ length xs
 distance-nil [] = refl
 distance-nil (x ∷ xs) = refl
 
+pub distance-past : (xs ys : List ℕ) (i : ℕ) → length xs ≤ i → length ys ≤ i → distance (drop i xs) (drop i ys) ≡ 0
+distance-past xs ys i hx hy = ap₂ distance (drop-all i xs hx) (drop-all i ys hy)
+
 -- past the shorter word, the rest of the longer one differs
 pub distance-end : (xs ys : List ℕ) (n : ℕ) → n ≡ min (length xs) (length ys) → distance (drop n xs) (drop n ys) ≡ max (length xs) (length ys) - n
 distance-end xs ys n e =

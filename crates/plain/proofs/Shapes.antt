@@ -2,15 +2,20 @@
 use mathlib.Core.Path.{_≡_, refl, sym, ap, ap₂, subst, _∙_}
 use mathlib.Core.Bool.{Bool, true, false, _&&_, _||_}
 use mathlib.Core.List.{List, [], _∷_}
-use Prim.Native.Nat.{ℕ, zero, suc, _+_, _-_, _≤_, _<_, min}
-use native.Mathlib.Decide.{decLe}
+use Prim.Native.Nat.{ℕ, zero, suc, _+_, _-_, _≤_, _<_}
 use native.Mathlib.Omega.{arith}
 use lib.Dec.{T, eqb, leb, leb→le, le→leb, eqb→eq, eqb-refl}
-use lib.ListN.{length, getD, drop, take, length-drop}
-use lib.Seq.{take-all}
-use Rattle.std.proofs.shelf.Lists.{at-drop-more, drop-more, drop-all}
+use lib.ListN.{length, getD, drop, take, replicate, length-drop}
+use Rattle.std.proofs.shelf.Lists.{at-drop-more, drop-more, take-replicate}
+use Rattle.std.specs.declared.result.Result.the-variants.{Ok}
+use Rattle.field.specs.Meaning.{IsField}
+use Rattle.field.specs.Meaning as fields
+use Rattle.field.specs.Words.{totalled}
+use Rattle.field.proofs.Accepted.{passed}
+use Rattle.field.proofs.Unique.{one-small}
+use Rattle.field.proofs.Vectors.{symbols-replicate}
 use Rattle.field.proofs.Tests.{true-is, is-false, and-true, and-false}
-use Rattle.plain.specs.Kinds.{rising, has}
+use Rattle.plain.specs.Kinds.{rising, has, ones}
 
 or-false : (a b : Bool) → (T a → ⊥) → (a || b) ≡ b
 or-false true b h = absurd (h tt)
@@ -51,10 +56,9 @@ short (x ∷ y ∷ ks) h = absurd (omega arith)
 pub rising-end : (ks : List ℕ) (i : ℕ) → length ks ≤ i → rising (drop (i - 1) ks) ≡ true
 rising-end ks i past = short (drop (i - 1) ks) (let e = length-drop (i - 1) ks in omega arith)
 
--- an array of four holds no more
-pub take-four : (s n : ℕ) (ks : List ℕ) → length ks ≡ 4 → n ≡ min s 4 → take (n - 0) ks ≡ take s ks
-take-four s n ks long e =
-    elim (decLe s 4) [
-      | yes h ↦ let same : n - 0 ≡ s = omega arith in ap (λ k. take k ks) same
-      | no h ↦ take-all (n - 0) ks (omega arith) ∙ sym (take-all s ks (omega arith))
-    ]
+-- the sum of the first m of 32 ones
+pub ones-told : {F : fields.Meaning} → IsField F → (m : ℕ) → m ≤ 32 → totalled F (take (m - 0) (replicate 32 1)) ≡ Ok (ones F m)
+ones-told {F} lawful m small =
+    let same : m - 0 ≡ m = omega arith in
+    let is : take (m - 0) (replicate 32 1) ≡ replicate m 1 = ap (λ k. take k (replicate 32 1)) same ∙ take-replicate m 32 1 small in
+    ap (totalled F) is ∙ sym (passed _ _ _ (symbols-replicate (F .q) m 1 (one-small lawful)) refl)

@@ -14,23 +14,30 @@ use Rattle.field.specs.Meaning as fields
 use Rattle.field.specs.Words.{total, symbols}
 use Rattle.chain.specs.Answers.{unless}
 use Rattle.chain.specs.Meaning.{Meaning, flawed}
+use Rattle.plain.specs.declared.words.Kind.{Kind}
+use Rattle.plain.specs.declared.words.Kind.the-variants.{Every, ZeroSum, Repeated}
 
--- kind 0: every word; kind 1: the symbols add to 0; kind 2: one symbol repeated
-abbrev pub kind-size : ℕ → ℕ → ℕ
-kind-size m zero = m
-kind-size m (suc zero) = m - 1
-kind-size m (suc (suc k)) = 1
+-- the kind of a level by its number
+abbrev pub kind-of : ℕ → Kind
+kind-of zero = Every
+kind-of (suc zero) = ZeroSum
+kind-of (suc (suc n)) = Repeated
 
-abbrev pub kind-distance : ℕ → ℕ → ℕ
-kind-distance m zero = 1
-kind-distance m (suc zero) = 2
-kind-distance m (suc (suc k)) = m
+abbrev pub kind-size : ℕ → Kind → ℕ
+kind-size m Every = m
+kind-size m ZeroSum = m - 1
+kind-size m Repeated = 1
 
--- at kind 1 the last symbol is the opposite of the sum of the others
-abbrev pub kind-word : fields.Meaning → ℕ → ℕ → List ℕ → List ℕ
-kind-word F m zero xs = xs
-kind-word F m (suc zero) xs = xs ++ opposite-of F (total F xs) ∷ []
-kind-word F m (suc (suc k)) xs = replicate m (getD xs 0 0)
+abbrev pub kind-distance : ℕ → Kind → ℕ
+kind-distance m Every = 1
+kind-distance m ZeroSum = 2
+kind-distance m Repeated = m
+
+-- every word; words whose symbols add to 0, the last being the opposite of the others' sum; one symbol repeated
+abbrev pub kind-word : fields.Meaning → ℕ → Kind → List ℕ → List ℕ
+kind-word F m Every xs = xs
+kind-word F m ZeroSum xs = xs ++ opposite-of F (total F xs) ∷ []
+kind-word F m Repeated xs = replicate m (getD xs 0 0)
 
 -- kinds never fall from one level to the next
 abbrev pub rising : List ℕ → Bool
@@ -56,15 +63,19 @@ plain-flaw F m ks =
     orOther (unless (leb 2 m && leb m 32) ChainLength)
     (orOther (unless (leb 1 (length ks) && leb (length ks) 4) LevelCount) (unless (kinds-fit F m ks) LevelShape))
 
+-- the kind of level i, counted from 1
+abbrev pub kind-at : List ℕ → ℕ → Kind
+kind-at ks i = kind-of (getD ks (i - 1) 0)
+
 abbrev pub sound : fields.Meaning → ℕ → List ℕ → Meaning
 sound F m ks = record {
   flaw = None;
   field = F;
   m = m;
   s = length ks;
-  size = λ i. kind-size m (getD ks (i - 1) 0);
-  distance = λ i. kind-distance m (getD ks (i - 1) 0);
-  encoding = λ i. kind-word F m (getD ks (i - 1) 0);
+  size = λ i. kind-size m (kind-at ks i);
+  distance = λ i. kind-distance m (kind-at ks i);
+  encoding = λ i. kind-word F m (kind-at ks i);
 }
 
 abbrev pub sound-unless : Option Refusal → fields.Meaning → ℕ → List ℕ → Meaning

@@ -2,52 +2,29 @@
 ghost use mathlib.Core.Path.{_≡_};
 ghost use Prim.Native.Nat.{_≤_};
 ghost use lib.Dec.{eqb};
-ghost use lib.ListN.{take};
+ghost use Rattle.chain.specs.Held.{held};
 ghost use Rattle.field.specs.Words.{symbols};
 ghost use Rattle.plain.specs.Kinds.{plain, plain-flaw, kinds-fit, rising, has, ones};
+use chain::LevelNumbers;
 use crate::Plain;
 use field::Field;
 use field::total;
 use refusal::Refusal;
 
-#[derive(Clone, Copy, PartialEq, Eq, Debug)]
-pub enum Kind {
-    // Every word.
-    Every,
-    // The symbols add to 0.
-    ZeroSum,
-    // One symbol repeated.
-    Repeated,
-}
-
 impl<F: Field> Plain<F> {
     pub fn new(field: F, m: usize, kinds: &[u8]) -> Plain<F>
-        ensures { λ r. ⌜ plain (F·Field .meaning (r .field)) (r .m) (take (r .s) (r .kinds)) ≡ plain (F·Field .meaning field) m (now (kinds .entry)) ⌝ }
+        ensures { λ r. ⌜ plain (F·Field .meaning (r .field)) (r .m) (held (r .kinds)) ≡ plain (F·Field .meaning field) m (now (kinds .entry)) ⌝ }
     {
-        let mut held = [0; 4];
-        // More kinds than that have the same flaw as none.
-        let s = if kinds.len() <= 4 { kinds.len() } else { 0 };
-        for i in 0..s {
-            held[i] = kinds[i];
-        }
-        Plain {
-            field,
-            m,
-            s,
-            kinds: held,
-        }
+        // More kinds than four have the same flaw as none.
+        let kinds = LevelNumbers::of(kinds);
+        Plain { field, m, kinds }
     }
 
-    pub(crate) fn levels_held(&self) -> &[u8]
-        ensures { λ r. ⌜ now r ≡ take (now (self .entry) .s) (now (self .entry) .kinds) ⌝ }
-    {
-        &self.kinds[0..self.s.min(4)]
-    }
-
+    // The least refusal that applies to the chain as it was made.
     pub(crate) fn find_flaw(&self) -> Option<Refusal>
-        ensures { λ r. ⌜ r ≡ plain-flaw (F·Field .meaning (now (self .entry) .field)) (now (self .entry) .m) (take (now (self .entry) .s) (now (self .entry) .kinds)) ⌝ }
+        ensures { λ r. ⌜ r ≡ plain-flaw (F·Field .meaning (now (self .entry) .field)) (now (self .entry) .m) (held (now (self .entry) .kinds)) ⌝ }
     {
-        let kinds = self.levels_held();
+        let kinds = self.kinds.as_slice();
         if self.m < 2 || self.m > 32 {
             return Some(Refusal::ChainLength);
         }
