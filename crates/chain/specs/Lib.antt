@@ -3,3 +3,4 @@ pub mod Search
 pub mod Answers
 pub mod Follows
 pub mod Held
+pub mod Calls

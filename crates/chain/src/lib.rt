@@ -1,9 +1,7 @@
 // A chain of nested codes over one field, as the link uses one: what a supplier of a chain shows.
 ghost use mathlib.Core.Path.{_≡_};
-ghost use mathlib.Core.Bool.{true};
-ghost use lib.ListN.{length};
-ghost use Rattle.std.specs.Options.{isSome};
-ghost use Rattle.chain.specs.Answers.{answer, told, told-of-level, is-level, encode-cause, early-cause, correct-cause, strip-cause, encoded, corrected, stripped};
+ghost use Rattle.chain.specs.Answers.{told, told-of-level, is-level};
+ghost use Rattle.chain.specs.Calls.{Encodes, Corrects, Strips};
 ghost use Rattle.chain.specs.Meaning.{Meaning, Lawful};
 use field::Field;
 use refusal::Refusal;
@@ -47,17 +45,13 @@ pub trait Chain {
 
     // Writes the level's word of a message.
     fn encode(&self, level: usize, message: &[u8], out: &mut [u8]) -> Result<(), Refusal>
-        ensures result { λ r. ⌜ r ≡ answer (encode-cause (meaning (now (self .entry))) level (now (message .entry)) (length (now (out .entry)))) ⌝ }
-        ensures after { λ _. ⌜ now (out .exit) ≡ encoded (meaning (now (self .entry))) level (now (message .entry)) (now (out .entry)) ⌝ };
+        ensures { λ r. ⌜ Encodes (meaning (now (self .entry))) level (now (message .entry)) (now (out .entry)) r (now (out .exit)) ⌝ };
 
     // Replaces the block by the level's word within the level's radius. What a search leaves in the scratch is open.
     fn correct(&self, level: usize, block: &mut [u8], scratch: &mut [u8]) -> Result<(), Refusal>
-        ensures result { λ r. ⌜ r ≡ answer (correct-cause (meaning (now (self .entry))) level (now (block .entry)) (length (now (scratch .entry)))) ⌝ }
-        ensures after { λ _. ⌜ now (block .exit) ≡ corrected (meaning (now (self .entry))) level (now (block .entry)) (length (now (scratch .entry))) ⌝ }
-        ensures untouched { λ _. ⌜ (isSome (early-cause (meaning (now (self .entry))) level (now (block .entry)) (length (now (scratch .entry)))) ≡ true → now (scratch .exit) ≡ now (scratch .entry)) ⌝ };
+        ensures { λ r. ⌜ Corrects (meaning (now (self .entry))) level (now (block .entry)) (now (scratch .entry)) r (now (block .exit)) (now (scratch .exit)) ⌝ };
 
     // Writes the message of a word of the level.
     fn strip(&self, level: usize, block: &[u8], out: &mut [u8]) -> Result<(), Refusal>
-        ensures result { λ r. ⌜ r ≡ answer (strip-cause (meaning (now (self .entry))) level (now (block .entry)) (length (now (out .entry)))) ⌝ }
-        ensures after { λ _. ⌜ now (out .exit) ≡ stripped (meaning (now (self .entry))) level (now (block .entry)) (now (out .entry)) ⌝ };
+        ensures { λ r. ⌜ Strips (meaning (now (self .entry))) level (now (block .entry)) (now (out .entry)) r (now (out .exit)) ⌝ };
 }
