@@ -73,9 +73,9 @@ module _ (C : Meaning) (i : ℕ) where
       encodes-by xs out (Some BadArgument)
       (or-none _ _ none
       ∙ fails _ BadArgument (λ t.
-          let u = both-left (is-level C i && is-word C (C .size i) xs) (eqb (length out) (C .m)) t in
-          h (is-level-yes C i (both-left (is-level C i) (is-word C (C .size i) xs) u)) (is-word-yes C _ xs (both-right (is-level C i) (is-word C (C .size i) xs) u))
-          (eqb→eq _ _ (both-right (is-level C i && is-word C (C .size i) xs) (eqb (length out) (C .m)) t))))
+      let u = both-left (is-level C i && is-word C (C .size i) xs) (eqb (length out) (C .m)) t in
+      h (is-level-yes C i (both-left (is-level C i) (is-word C (C .size i) xs) u)) (is-word-yes C _ xs (both-right (is-level C i) (is-word C (C .size i) xs) u))
+      (eqb→eq _ _ (both-right (is-level C i && is-word C (C .size i) xs) (eqb (length out) (C .m)) t))))
 
   pub encode-done : (xs out : List ℕ) → C .flaw ≡ None → Level C i → Word (C .field) (C .size i) xs → length out ≡ C .m → Encodes C i xs out (Ok tt) (C .encoding i xs)
   encode-done xs out none level word long =
@@ -144,8 +144,8 @@ module _ (C : Meaning) (i : ℕ) where
       strips-by b out (Some BadArgument)
       (or-none _ _ none
       ∙ or-some _ _ BadArgument (fails _ BadArgument (λ t.
-          let u = word-and-level b (both-left (is-level C i && is-word C (C .m) b) (eqb (length out) (C .size i)) t) in
-          h (u .0) (u .1) (eqb→eq _ _ (both-right (is-level C i && is-word C (C .m) b) (eqb (length out) (C .size i)) t)))))
+      let u = word-and-level b (both-left (is-level C i && is-word C (C .m) b) (eqb (length out) (C .size i)) t) in
+      h (u .0) (u .1) (eqb→eq _ _ (both-right (is-level C i && is-word C (C .m) b) (eqb (length out) (C .size i)) t)))))
 
   strip-arguments : (b out : List ℕ) → Level C i → Word (C .field) (C .m) b → length out ≡ C .size i → unless (is-level C i && is-word C (C .m) b && eqb (length out) (C .size i)) BadArgument ≡ None
   strip-arguments b out level word long =

@@ -118,7 +118,7 @@ module _ {F : fields.Meaning} (lawful : IsField F) (m : ℕ) (two : 2 ≤ m) whe
       let hv = encodes ZeroSum xs hx in
       let hw = encodes ZeroSum ys hy in
       elim (decLe 2 (distance v w)) [
-        yes h ↦ h
+        | yes h ↦ h
         | no h ↦ absurd (ne (one-total lawful v w (hv .long ∙ sym (hw .long)) (hv .all) (hw .all) (omega arith) (zero-total xs (hx .all) ∙ sym (zero-total ys (hy .all)))))
       ]
   apart Repeated xs ys hx hy ne =

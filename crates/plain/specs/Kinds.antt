@@ -63,7 +63,11 @@ plain-flaw F m ks =
     orOther (unless (leb 2 m && leb m 32) ChainLength)
     (orOther (unless (leb 1 (length ks) && leb (length ks) 4) LevelCount) (unless (kinds-fit F m ks) LevelShape))
 
--- the kind of level i, counted from 1
+-- level i, counted from 1, is there
+abbrev pub is-kind : List ℕ → ℕ → Bool
+is-kind ks i = leb 1 i && leb i (length ks)
+
+-- the kind of level i
 abbrev pub kind-at : List ℕ → ℕ → Kind
 kind-at ks i = kind-of (getD ks (i - 1) 0)
 

@@ -7,10 +7,11 @@ ghost use Rattle.std.specs.Options.{Cases};
 ghost use Rattle.field.specs.Words.{symbols};
 ghost use Rattle.chain.specs.Meaning.{Word, radius};
 ghost use Rattle.plain.specs.Kinds.{kind-of, kind-size, kind-distance, kind-word};
-ghost use Rattle.plain.specs.Words.{others, fits, Elected};
+ghost use Rattle.plain.specs.Words.{others, fits, Elected, BlockCorrected, BlockStripped};
 use field::Field;
 use field::negate;
 use field::total;
+use refusal::Refusal;
 
 #[derive(Clone, Copy, PartialEq, Eq, Debug)]
 pub enum Kind {
@@ -124,4 +125,46 @@ pub(crate) fn majority(block: &[u8]) -> Option<u8>
         }
     }
     None
+}
+
+// Replaces a block by the word of the kind that is near enough.
+pub(crate) fn correct_block<F: Field>(f: &F, kind: Kind, block: &mut [u8]) -> Result<(), Refusal>
+    requires within { ⌜ 2 ≤ length (now block) ⌝ }
+    requires all { ⌜ T (symbols (F·Field .meaning (now f) .q) (now block)) ⌝ }
+    ensures { λ r. ⌜ BlockCorrected (F·Field .meaning (now (f .entry))) kind (now (block .entry)) r (now (block .exit)) ⌝ }
+{
+    if kind == Kind::Repeated {
+        let Some(x) = majority(block) else {
+            return Err(Refusal::NoLevelWord);
+        };
+        fill(block, x);
+        return Ok(());
+    }
+    // The other kinds correct nothing: a word is near enough only to itself.
+    if is_of_kind(f, kind, block) {
+        Ok(())
+    } else {
+        Err(Refusal::NoLevelWord)
+    }
+}
+
+// Writes the message of a word of the kind.
+pub(crate) fn strip_block<F: Field>(
+    f: &F,
+    kind: Kind,
+    block: &[u8],
+    out: &mut [u8],
+) -> Result<(), Refusal>
+    requires within { ⌜ 2 ≤ length (now block) ⌝ }
+    requires all { ⌜ T (symbols (F·Field .meaning (now f) .q) (now block)) ⌝ }
+    requires long { ⌜ length (now out) ≡ kind-size (length (now block)) kind ⌝ }
+    ensures { λ r. ⌜ BlockStripped (F·Field .meaning (now (f .entry))) kind (now (block .entry)) (now (out .entry)) r (now (out .exit)) ⌝ }
+{
+    if !is_of_kind(f, kind, block) {
+        return Err(Refusal::NoLevelWord);
+    }
+    for i in 0..out.len() {
+        out[i] = block[i];
+    }
+    Ok(())
 }

@@ -21,7 +21,7 @@ loop-y-again c =
     let lx : i < length xs = omega (arith, length-replicate (length b) x) in
     let here : getD xs i 0 ≡ x = getD-replicate (length b) i x 0 lb in
     elim (c .if-y-x .came) [
-      then-y-x w ↦ (omega (arith, w .count-is, distance-more xs b i lx lb (λ e. w .if-y-x .taken (sym e ∙ here)), c .loop-y .inv .0), omega (arith, w .count-is))
+      | then-y-x w ↦ (omega (arith, w .count-is, distance-more xs b i lx lb (λ e. w .if-y-x .taken (sym e ∙ here)), c .loop-y .inv .0), omega (arith, w .count-is))
       | else-y-x w ↦ (omega (arith, w .count-is, distance-same xs b i lx lb (here ∙ sym (w .if-y-x .left)), c .loop-y .inv .0), omega (arith, w .count-is))
     ]
 
