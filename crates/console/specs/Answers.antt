@@ -1,0 +1,75 @@
+-- What the console answers to each command, and what stands after it. Assumes nothing.
+use mathlib.Core.Path.{_≡_}
+use mathlib.Core.List.{List, [], _∷_, _++_}
+use Prim.Native.Nat.{ℕ}
+use Rattle.std.specs.declared.option.Option.{Option}
+use Rattle.std.specs.declared.option.Option.the-variants.{Some, None}
+use Rattle.std.specs.declared.result.Result.{Result}
+use Rattle.std.specs.declared.result.Result.the-variants.{Ok, Err}
+use Rattle.refusal.specs.declared.Refusal.{Refusal}
+use Rattle.field.specs.Meaning.{Meaning}
+use Rattle.field.specs.Answers.{summed, multiplied, opposed, inverted}
+use Rattle.any_field.specs.Kinds.{of-order}
+use Rattle.script.specs.Echo.{echoed}
+use Rattle.script.specs.Commands.{Asked, field, sum, product, opposite, inverse, sheet}
+use Rattle.script.specs.Lines.{Heard, passed-over, not-understood, understood}
+use Rattle.console.specs.declared.answer.Answer.{Answer}
+use Rattle.console.specs.declared.answer.Answer.the-variants.{Field, Symbol, Failed, NotUnderstood}
+use Rattle.console.specs.declared.answer.Failure.{Failure}
+use Rattle.console.specs.declared.answer.Failure.the-variants.{NoFieldYet, Refused}
+use Rattle.console.specs.Printed.{printed}
+
+abbrev pub told : {X : Type 0} → (X → Answer) → Result X Refusal → Result Answer Failure
+told f (Ok x) = Ok (f x)
+told f (Err e) = Err (Refused e)
+
+abbrev pub on-field : Option Meaning → (Meaning → Result Answer Failure) → Result Answer Failure
+on-field None f = Err NoFieldYet
+on-field (Some F) f = f F
+
+-- the answer to a command, where the field F stands or none
+abbrev pub Answers : Option Meaning → Asked → Result Answer Failure → Type 0
+Answers F (field q) r = r ≡ told (λ G. Field (G .q)) (of-order q)
+Answers F (sum a b) r = r ≡ on-field F (λ G. told Symbol (summed G a b))
+Answers F (product a b) r = r ≡ on-field F (λ G. told Symbol (multiplied G a b))
+Answers F (opposite a) r = r ≡ on-field F (λ G. told Symbol (opposed G a))
+Answers F (inverse a) r = r ≡ on-field F (λ G. told Symbol (inverted G a))
+Answers F sheet r = r ≡ on-field F (λ G. Ok (Field (G .q)))
+
+-- what is made stands, and a refusal leaves what stood before
+abbrev pub kept : {X : Type 0} → Option X → Result X Refusal → Option X
+kept o (Ok x) = Some x
+kept o (Err e) = o
+
+-- the field that stands after a command
+abbrev pub field-after : Option Meaning → Asked → Option Meaning
+field-after F (field q) = kept F (of-order q)
+field-after F (sum a b) = F
+field-after F (product a b) = F
+field-after F (opposite a) = F
+field-after F (inverse a) = F
+field-after F sheet = F
+
+abbrev pub replied : Result Answer Failure → Answer
+replied (Ok a) = a
+replied (Err e) = Failed e
+
+-- the answer as it is given
+abbrev pub Replied : Option Meaning → Asked → Answer → Type 0
+Replied F c a = (r : Result Answer Failure) × Answers F c r × (a ≡ replied r)
+
+-- a line shown again, and its answer, each with its newline
+abbrev pub exchange : List ℕ → Answer → List ℕ
+exchange line a = echoed line ++ 10 ∷ (printed a ++ 10 ∷ [])
+
+-- what is printed for a line, where the field F stands or none
+abbrev pub Prints : Option Meaning → List ℕ → Heard → Option (List ℕ) → Type 0
+Prints F line passed-over o = o ≡ None
+Prints F line not-understood o = o ≡ Some (exchange line NotUnderstood)
+Prints F line (understood c) o = (a : Answer) × Replied F c a × (o ≡ Some (exchange line a))
+
+-- the field that stands after a line
+abbrev pub field-then : Option Meaning → Heard → Option Meaning
+field-then F passed-over = F
+field-then F not-understood = F
+field-then F (understood c) = field-after F c

@@ -1,0 +1,69 @@
+-- The commands of a script. Assumes nothing.
+use mathlib.Core.Bool.{cond}
+use mathlib.Core.List.{List, [], _∷_, map}
+use Prim.Native.Nat.{ℕ}
+use denote.Ref.{RefT}
+use lib.Chars.{codes}
+use Rattle.std.specs.declared.option.Option.{Option}
+use Rattle.std.specs.declared.option.Option.the-variants.{Some, None}
+use Rattle.std.specs.Options.{mapped}
+use Rattle.std.specs.shelf.Text.{sameBytes}
+use Rattle.script.specs.declared.commands.Command.{Command}
+use Rattle.script.specs.declared.commands.Command.the-variants as Command
+use Rattle.script.specs.declared.commands.Name.{Name}
+use Rattle.script.specs.declared.commands.Name.the-variants as Name
+use Rattle.script.specs.Arguments.{none, one, two}
+
+-- a name with its spelling
+abbrev pub entry : RefT (List ℕ) × Name → List ℕ × Name
+entry e = (e .0 .now, e .1)
+
+abbrev pub entries : List (RefT (List ℕ) × Name) → List (List ℕ × Name)
+entries = map entry
+
+abbrev pub names : List (List ℕ × Name)
+names =
+    (codes "field", Name.Field)
+    ∷ (codes "sum", Name.Sum)
+    ∷ (codes "product", Name.Product)
+    ∷ (codes "opposite", Name.Opposite)
+    ∷ (codes "inverse", Name.Inverse)
+    ∷ (codes "sheet", Name.Sheet)
+    ∷ []
+
+-- the first name of the table that is spelled so
+abbrev pub named : List (List ℕ × Name) → List ℕ → Option Name
+named [] word = None
+named (e ∷ es) word = cond (sameBytes (e .0) word) (Some (e .1)) (named es word)
+
+-- the name that is spelled so
+unfoldable pub spelled : List ℕ → Option Name
+spelled word = named names word
+
+-- what a command asks for
+pub data Asked : Type 0 where
+  field opposite inverse : ℕ → Asked
+  sum product : ℕ → ℕ → Asked
+  sheet : Asked
+
+abbrev pub view : Command → Asked
+view (Command.Field q) = field q
+view (Command.Sum a b) = sum a b
+view (Command.Product a b) = product a b
+view (Command.Opposite a) = opposite a
+view (Command.Inverse a) = inverse a
+view Command.Sheet = sheet
+
+-- the command of that name with those numbers, if there is one
+abbrev pub asked : Name → List ℕ → Option Asked
+asked Name.Field ns = mapped field (one ns)
+asked Name.Sum ns = mapped (λ p. sum (p .0) (p .1)) (two ns)
+asked Name.Product ns = mapped (λ p. product (p .0) (p .1)) (two ns)
+asked Name.Opposite ns = mapped opposite (one ns)
+asked Name.Inverse ns = mapped inverse (one ns)
+asked Name.Sheet ns = mapped (λ _. sheet) (none ns)
+
+abbrev pub called : Option Name → Option (List ℕ) → Option Asked
+called None ns = None
+called (Some n) None = None
+called (Some n) (Some ns) = asked n ns
