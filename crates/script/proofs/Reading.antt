@@ -20,11 +20,11 @@ use Rattle.script.specs.declared.arguments.Unread.{Unread}
 use Rattle.script.specs.declared.arguments.Unread.the-variants.{NotUnderstood, Memory}
 use Rattle.script.specs.Words.{texts}
 use Rattle.script.specs.Numbers.{numbers}
-use Rattle.script.specs.Arguments.{Reads}
+use Rattle.script.specs.Arguments.{Reads, beside, first-and-rest, symbol, symbols}
 use Rattle.script.specs.Commands.{Asked, view, asked, called, spelled}
 use Rattle.script.specs.Lines.{comment, passed-over, not-understood, told, read}
 
-ok-some : {X : Type 0} (o : Option X) (x : X) → _≡_ {A = Result X Unread} (Ok x) (okOr o NotUnderstood) → Some x ≡ o
+pub ok-some : {X : Type 0} (o : Option X) (x : X) → _≡_ {A = Result X Unread} (Ok x) (okOr o NotUnderstood) → Some x ≡ o
 ok-some None x e = cc
 ok-some (Some y) x e = cc
 
@@ -52,3 +52,15 @@ command-line ws d h e =
 pub not-read : (e : Unread) (o : Option Asked) → e ≡ NotUnderstood → Reads view (Err e) o → not-understood ≡ told o
 not-read NotUnderstood o is h = ap told h
 not-read Memory o is h = absurd (let z : _≡_ {A = ℕ} 0 1 = cc in omega arith)
+
+pub err-none : {X : Type 0} (o : Option X) (e : Unread) → _≡_ {A = Result X Unread} (Err e) (okOr o NotUnderstood) → (None ≡ o) × (e ≡ NotUnderstood)
+err-none None e h = (refl, cc)
+err-none (Some x) e h = absurd (let z : _≡_ {A = ℕ} 0 1 = cc in omega arith)
+
+pub split-first : (ns : List ℕ) → 0 < length ns → first-and-rest ns ≡ beside (symbol (getD ns 0 0)) (symbols (between 1 (length ns) ns))
+split-first ns h = ap first-and-rest (first-rest ns 0 h)
+
+pub rest-unread : {X Y : Type 0} (f : X → List ℕ) (g : Y → ℕ × List ℕ) (e : Unread) (o : Option ℕ) (ns : Option (List ℕ)) → Reads f (Err e) ns → Reads g (Err e) (beside o ns)
+rest-unread f g NotUnderstood None ns h = refl
+rest-unread f g NotUnderstood (Some n) ns h = ap (beside (Some n)) h
+rest-unread f g Memory o ns h = tt

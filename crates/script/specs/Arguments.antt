@@ -4,6 +4,10 @@ use mathlib.Core.List.{List, [], _∷_}
 use mathlib.Core.Path.{_≡_}
 use Prim.Native.Nat.{ℕ}
 use lib.Dec.{leb}
+use Rattle.std.specs.declared.vec.Vec.{Vec}
+use Rattle.std.specs.declared.alloc.Global.{Global}
+use Rattle.std.specs.Of.Vec.{vec-items}
+use Rattle.script.specs.Numbers.{with-first}
 use Rattle.std.specs.declared.option.Option.{Option}
 use Rattle.std.specs.declared.option.Option.the-variants.{Some, None}
 use Rattle.std.specs.declared.result.Result.{Result}
@@ -41,3 +45,27 @@ abbrev pub Reads : {X Y : Type 0} → (X → Y) → Result X Unread → Option Y
 Reads v (Ok x) o = Some (v x) ≡ o
 Reads v (Err NotUnderstood) o = None ≡ o
 Reads v (Err Memory) o = Unit {0}
+
+-- one number, whatever its value
+abbrev pub whole : List ℕ → Option ℕ
+whole [] = None
+whole (a ∷ []) = Some a
+whole (a ∷ b ∷ ns) = None
+
+-- any number of symbols
+abbrev pub symbols : List ℕ → Option (List ℕ)
+symbols [] = Some []
+symbols (n ∷ ns) = with-first (symbol n) (symbols ns)
+
+abbrev pub beside : Option ℕ → Option (List ℕ) → Option (ℕ × List ℕ)
+beside None ns = None
+beside (Some n) None = None
+beside (Some n) (Some ns) = Some (n, ns)
+
+-- a symbol, and those after it
+abbrev pub first-and-rest : List ℕ → Option (ℕ × List ℕ)
+first-and-rest [] = None
+first-and-rest (n ∷ ns) = beside (symbol n) (symbols ns)
+
+abbrev pub both-view : ℕ × Vec ℕ Global → ℕ × List ℕ
+both-view p = (p .0, vec-items (p .1))

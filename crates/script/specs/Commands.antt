@@ -6,13 +6,14 @@ use denote.Ref.{RefT}
 use lib.Chars.{codes}
 use Rattle.std.specs.declared.option.Option.{Option}
 use Rattle.std.specs.declared.option.Option.the-variants.{Some, None}
+use Rattle.std.specs.Of.Vec.{vec-items}
 use Rattle.std.specs.Options.{mapped}
 use Rattle.std.specs.shelf.Text.{sameBytes}
 use Rattle.script.specs.declared.commands.Command.{Command}
 use Rattle.script.specs.declared.commands.Command.the-variants as Command
 use Rattle.script.specs.declared.commands.Name.{Name}
 use Rattle.script.specs.declared.commands.Name.the-variants as Name
-use Rattle.script.specs.Arguments.{none, one, two}
+use Rattle.script.specs.Arguments.{first-and-rest, none, one, symbols, two, whole}
 
 -- a name with its spelling
 abbrev pub entry : RefT (List ℕ) × Name → List ℕ × Name
@@ -29,6 +30,11 @@ names =
     ∷ (codes "opposite", Name.Opposite)
     ∷ (codes "inverse", Name.Inverse)
     ∷ (codes "sheet", Name.Sheet)
+    ∷ (codes "plain", Name.Plain)
+    ∷ (codes "encode-level", Name.EncodeLevel)
+    ∷ (codes "correct-level", Name.CorrectLevel)
+    ∷ (codes "strip-level", Name.StripLevel)
+    ∷ (codes "scratch", Name.Scratch)
     ∷ []
 
 -- the first name of the table that is spelled so
@@ -45,6 +51,11 @@ pub data Asked : Type 0 where
   field opposite inverse : ℕ → Asked
   sum product : ℕ → ℕ → Asked
   sheet : Asked
+  plain : ℕ → List ℕ → Asked
+  encode-level : ℕ → List ℕ → Asked
+  correct-level : ℕ → List ℕ → Asked
+  strip-level : ℕ → List ℕ → Asked
+  scratch : ℕ → Asked
 
 abbrev pub view : Command → Asked
 view (Command.Field q) = field q
@@ -53,6 +64,11 @@ view (Command.Product a b) = product a b
 view (Command.Opposite a) = opposite a
 view (Command.Inverse a) = inverse a
 view Command.Sheet = sheet
+view (Command.Plain a v) = plain a (vec-items v)
+view (Command.EncodeLevel a v) = encode-level a (vec-items v)
+view (Command.CorrectLevel a v) = correct-level a (vec-items v)
+view (Command.StripLevel a v) = strip-level a (vec-items v)
+view (Command.Scratch a) = scratch a
 
 -- the command of that name with those numbers, if there is one
 abbrev pub asked : Name → List ℕ → Option Asked
@@ -62,6 +78,11 @@ asked Name.Product ns = mapped (λ p. product (p .0) (p .1)) (two ns)
 asked Name.Opposite ns = mapped opposite (one ns)
 asked Name.Inverse ns = mapped inverse (one ns)
 asked Name.Sheet ns = mapped (λ _. sheet) (none ns)
+asked Name.Plain ns = mapped (λ p. plain (p .0) (p .1)) (first-and-rest ns)
+asked Name.EncodeLevel ns = mapped (λ p. encode-level (p .0) (p .1)) (first-and-rest ns)
+asked Name.CorrectLevel ns = mapped (λ p. correct-level (p .0) (p .1)) (first-and-rest ns)
+asked Name.StripLevel ns = mapped (λ p. strip-level (p .0) (p .1)) (first-and-rest ns)
+asked Name.Scratch ns = mapped scratch (whole ns)
 
 abbrev pub called : Option Name → Option (List ℕ) → Option Asked
 called None ns = None

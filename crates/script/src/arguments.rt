@@ -5,7 +5,7 @@ ghost use Rattle.std.specs.Options.{okOr};
 ghost use Rattle.script.specs.declared.arguments.Unread.the-variants.{NotUnderstood, Memory};
 ghost use Rattle.script.specs.Words.{texts};
 ghost use Rattle.script.specs.Numbers.{numbers};
-ghost use Rattle.script.specs.Arguments.{Reads, none, one, symbol, two};
+ghost use Rattle.script.specs.Arguments.{Reads, both-view, first-and-rest, none, one, symbol, symbols, two, whole};
 use crate::numbers::number_of;
 use std::alloc::Global;
 use std::alloc::Refused;
@@ -74,4 +74,34 @@ pub fn two_of(numbers: &[u32]) -> Result<(u8, u8), Unread>
         [a, b] => Ok((symbol_of(*a)?, symbol_of(*b)?)),
         _ => Err(Unread::NotUnderstood),
     }
+}
+
+pub fn whole_of(numbers: &[u32]) -> Result<u32, Unread>
+    ensures { λ r. ⌜ r ≡ okOr (whole (now (numbers .entry))) NotUnderstood ⌝ }
+{
+    match numbers {
+        [n] => Ok(*n),
+        _ => Err(Unread::NotUnderstood),
+    }
+}
+
+pub fn symbols_of(heap: Global, numbers: &[u32]) -> Result<Vec<u8>, Unread>
+    ensures { λ r. ⌜ Reads vec-items r (symbols (now (numbers .entry))) ⌝ }
+{
+    let mut found = Vec::new(heap);
+    for number in numbers {
+        found.push(symbol_of(*number)?)?;
+    }
+    Ok(found)
+}
+
+pub fn first_and_rest_of(heap: Global, numbers: &[u32]) -> Result<(u8, Vec<u8>), Unread>
+    ensures { λ r. ⌜ Reads both-view r (first-and-rest (now (numbers .entry))) ⌝ }
+{
+    let [first, rest @ ..] = numbers else {
+        return Err(Unread::NotUnderstood);
+    };
+    let first = symbol_of(*first)?;
+    let rest = symbols_of(heap, rest)?;
+    Ok((first, rest))
 }

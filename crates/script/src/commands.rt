@@ -7,10 +7,13 @@ ghost use Rattle.script.specs.Numbers.{numbers};
 ghost use Rattle.script.specs.Arguments.{Reads};
 ghost use Rattle.script.specs.Commands.{asked, called, entries, named, spelled, view};
 use crate::arguments::Unread;
+use crate::arguments::first_and_rest_of;
 use crate::arguments::none_of;
 use crate::arguments::numbers_of;
 use crate::arguments::one_of;
+use crate::arguments::symbols_of;
 use crate::arguments::two_of;
+use crate::arguments::whole_of;
 use std::alloc::Global;
 
 #[derive(Drop)]
@@ -21,6 +24,11 @@ pub enum Command {
     Opposite(u8),
     Inverse(u8),
     Sheet,
+    Plain(u8, Vec<u8>),
+    EncodeLevel(u8, Vec<u8>),
+    CorrectLevel(u8, Vec<u8>),
+    StripLevel(u8, Vec<u8>),
+    Scratch(u32),
 }
 
 #[derive(Clone, Copy)]
@@ -31,15 +39,25 @@ enum Name {
     Opposite,
     Inverse,
     Sheet,
+    Plain,
+    EncodeLevel,
+    CorrectLevel,
+    StripLevel,
+    Scratch,
 }
 
-const NAMES: [(&[u8], Name); 6] = [
+const NAMES: [(&[u8], Name); 11] = [
     (b"field", Name::Field),
     (b"sum", Name::Sum),
     (b"product", Name::Product),
     (b"opposite", Name::Opposite),
     (b"inverse", Name::Inverse),
     (b"sheet", Name::Sheet),
+    (b"plain", Name::Plain),
+    (b"encode-level", Name::EncodeLevel),
+    (b"correct-level", Name::CorrectLevel),
+    (b"strip-level", Name::StripLevel),
+    (b"scratch", Name::Scratch),
 ];
 
 fn found_in(table: &[(&[u8], Name)], word: &[u8]) -> Result<Name, Unread>
@@ -59,7 +77,7 @@ fn name_of(word: &[u8]) -> Result<Name, Unread>
     found_in(&NAMES, word)
 }
 
-fn command_of(name: Name, numbers: &[u32]) -> Result<Command, Unread>
+fn command_of(heap: Global, name: Name, numbers: &[u32]) -> Result<Command, Unread>
     ensures { λ r. ⌜ Reads view r (asked name (now (numbers .entry))) ⌝ }
 {
     match name {
@@ -78,6 +96,23 @@ fn command_of(name: Name, numbers: &[u32]) -> Result<Command, Unread>
             none_of(numbers)?;
             Ok(Command::Sheet)
         }
+        Name::Plain => {
+            let (first, rest) = first_and_rest_of(heap, numbers)?;
+            Ok(Command::Plain(first, rest))
+        }
+        Name::EncodeLevel => {
+            let (first, rest) = first_and_rest_of(heap, numbers)?;
+            Ok(Command::EncodeLevel(first, rest))
+        }
+        Name::CorrectLevel => {
+            let (first, rest) = first_and_rest_of(heap, numbers)?;
+            Ok(Command::CorrectLevel(first, rest))
+        }
+        Name::StripLevel => {
+            let (first, rest) = first_and_rest_of(heap, numbers)?;
+            Ok(Command::StripLevel(first, rest))
+        }
+        Name::Scratch => Ok(Command::Scratch(whole_of(numbers)?)),
     }
 }
 
@@ -86,5 +121,5 @@ pub fn command_in(heap: Global, first: &[u8], others: &[&[u8]]) -> Result<Comman
 {
     let name = name_of(first)?;
     let arguments = numbers_of(heap, others)?;
-    command_of(name, arguments.as_slice())
+    command_of(heap, name, arguments.as_slice())
 }
