@@ -11,13 +11,13 @@ use Rattle.field.specs.Meaning.{Meaning}
 use Rattle.field.specs.Answers.{summed, multiplied, opposed, inverted}
 use Rattle.any_field.specs.Kinds.{of-order}
 use Rattle.script.specs.Echo.{echoed}
-use Rattle.script.specs.Commands.{Asked, field, sum, product, opposite, inverse, sheet}
+use Rattle.script.specs.Commands.{Asked, field, sum, product, opposite, inverse, sheet, plain, encode-level, correct-level, strip-level, scratch}
 use Rattle.script.specs.Lines.{Heard, passed-over, not-understood, understood}
 use Rattle.console.specs.declared.answer.Answer.{Answer}
-use Rattle.console.specs.declared.answer.Answer.the-variants.{Field, Symbol, Failed, NotUnderstood}
+use Rattle.console.specs.declared.answer.Answer.the-variants.{Field, Symbol, Scratch, NotUnderstood}
 use Rattle.console.specs.declared.answer.Failure.{Failure}
 use Rattle.console.specs.declared.answer.Failure.the-variants.{NoFieldYet, Refused}
-use Rattle.console.specs.Printed.{printed}
+use Rattle.console.specs.Printed.{printed, replied}
 
 abbrev pub told : {X : Type 0} → (X → Answer) → Result X Refusal → Result Answer Failure
 told f (Ok x) = Ok (f x)
@@ -27,14 +27,19 @@ abbrev pub on-field : Option Meaning → (Meaning → Result Answer Failure) →
 on-field None f = Err NoFieldYet
 on-field (Some F) f = f F
 
--- the answer to a command, where the field F stands or none
-abbrev pub Answers : Option Meaning → Asked → Result Answer Failure → Type 0
-Answers F (field q) r = r ≡ told (λ G. Field (G .q)) (of-order q)
-Answers F (sum a b) r = r ≡ on-field F (λ G. told Symbol (summed G a b))
-Answers F (product a b) r = r ≡ on-field F (λ G. told Symbol (multiplied G a b))
-Answers F (opposite a) r = r ≡ on-field F (λ G. told Symbol (opposed G a))
-Answers F (inverse a) r = r ≡ on-field F (λ G. told Symbol (inverted G a))
-Answers F sheet r = r ≡ on-field F (λ G. Ok (Field (G .q)))
+-- the answer to a command, where the field F stands or none; the answers that a chain gives are its own contracts', and are tested here
+abbrev pub Answers : Option Meaning → Asked → Answer → Type 0
+Answers F (field q) a = a ≡ replied (told (λ G. Field (G .q)) (of-order q))
+Answers F (sum x y) a = a ≡ replied (on-field F (λ G. told Symbol (summed G x y)))
+Answers F (product x y) a = a ≡ replied (on-field F (λ G. told Symbol (multiplied G x y)))
+Answers F (opposite x) a = a ≡ replied (on-field F (λ G. told Symbol (opposed G x)))
+Answers F (inverse x) a = a ≡ replied (on-field F (λ G. told Symbol (inverted G x)))
+Answers F (scratch n) a = a ≡ Scratch n
+Answers F sheet a = Unit {0}
+Answers F (plain m ks) a = Unit {0}
+Answers F (encode-level i xs) a = Unit {0}
+Answers F (correct-level i xs) a = Unit {0}
+Answers F (strip-level i xs) a = Unit {0}
 
 -- what is made stands, and a refusal leaves what stood before
 abbrev pub kept : {X : Type 0} → Option X → Result X Refusal → Option X
@@ -49,14 +54,11 @@ field-after F (product a b) = F
 field-after F (opposite a) = F
 field-after F (inverse a) = F
 field-after F sheet = F
-
-abbrev pub replied : Result Answer Failure → Answer
-replied (Ok a) = a
-replied (Err e) = Failed e
-
--- the answer as it is given
-abbrev pub Replied : Option Meaning → Asked → Answer → Type 0
-Replied F c a = (r : Result Answer Failure) × Answers F c r × (a ≡ replied r)
+field-after F (plain m ks) = F
+field-after F (encode-level i xs) = F
+field-after F (correct-level i xs) = F
+field-after F (strip-level i xs) = F
+field-after F (scratch n) = F
 
 -- a line shown again, and its answer, each with its newline
 abbrev pub exchange : List ℕ → Answer → List ℕ
@@ -66,7 +68,7 @@ exchange line a = echoed line ++ 10 ∷ (printed a ++ 10 ∷ [])
 abbrev pub Prints : Option Meaning → List ℕ → Heard → Option (List ℕ) → Type 0
 Prints F line passed-over o = o ≡ None
 Prints F line not-understood o = o ≡ Some (exchange line NotUnderstood)
-Prints F line (understood c) o = (a : Answer) × Replied F c a × (o ≡ Some (exchange line a))
+Prints F line (understood c) o = (a : Answer) × Answers F c a × (o ≡ Some (exchange line a))
 
 -- the field that stands after a line
 abbrev pub field-then : Option Meaning → Heard → Option Meaning

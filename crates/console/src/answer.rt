@@ -1,16 +1,21 @@
 // What the console answers, and how it prints it.
 ghost use mathlib.Core.Path.{_≡_};
 ghost use Rattle.std.specs.declared.option.Option.the-variants.{Some};
-ghost use Rattle.console.specs.Printed.{printed, printed-failure};
+ghost use Rattle.console.specs.Printed.{printed, printed-failure, replied};
 ghost use Rattle.console.specs.declared.answer.Failure.the-variants.{Refused};
 use refusal::Refusal;
 use refusal::RefusalDisplay;
 use std::fmt;
 
-#[derive(Clone, Copy)]
+#[derive(Drop)]
 pub enum Answer {
     Field(u8),
     Symbol(u8),
+    // A chain was made; its flaw's number, or 0.
+    Chain(u8),
+    Scratch(u32),
+    // Symbols, or the lines of a sheet.
+    Text(String),
     Failed(Failure),
     NotUnderstood,
 }
@@ -19,6 +24,7 @@ pub enum Answer {
 #[derive(Clone, Copy)]
 pub enum Failure {
     NoFieldYet,
+    NoChainYet,
     Refused(Refusal),
 }
 
@@ -30,6 +36,17 @@ pub impl From<Refusal> for Failure as FailureFromRefusal {
     }
 }
 
+impl Answer {
+    pub fn of(result: Result<Answer, Failure>) -> Answer
+        ensures { λ r. ⌜ r ≡ replied result ⌝ }
+    {
+        match result {
+            Ok(answer) => answer,
+            Err(failure) => Answer::Failed(failure),
+        }
+    }
+}
+
 pub impl fmt::Display for Answer as AnswerDisplay {
     ghost shown = { λ a. Some (printed a) };
 
@@ -37,6 +54,9 @@ pub impl fmt::Display for Answer as AnswerDisplay {
         match self {
             Answer::Field(q) => write!(f, "field q {q}"),
             Answer::Symbol(a) => write!(f, "{a}"),
+            Answer::Chain(flaw) => write!(f, "chain flaw {flaw}"),
+            Answer::Scratch(bytes) => write!(f, "scratch {bytes}"),
+            Answer::Text(text) => write!(f, "{text}"),
             Answer::Failed(failure) => write!(f, "{failure}"),
             Answer::NotUnderstood => write!(f, "not understood"),
         }
@@ -49,6 +69,7 @@ pub impl fmt::Display for Failure as FailureDisplay {
     fn fmt<W: fmt::Write>(&self, f: &mut fmt::Formatter<W>) -> fmt::Result {
         match self {
             Failure::NoFieldYet => write!(f, "no field yet"),
+            Failure::NoChainYet => write!(f, "no chain yet"),
             Failure::Refused(refusal) => write!(f, "{refusal}"),
         }
     }

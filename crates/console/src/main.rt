@@ -1,5 +1,6 @@
 // Reads a script on standard input, and prints each command with its answer.
 mod answer;
+mod levels;
 mod session;
 
 use session::Session;

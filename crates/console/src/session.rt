@@ -5,17 +5,21 @@ ghost use Rattle.std.specs.Options.{mapped, okOr};
 ghost use Rattle.std.specs.Of.String.{string-bytes};
 ghost use Rattle.std.specs.Vec.{made};
 ghost use Rattle.any_field.specs.Kinds.{meant, of-order};
+ghost use Rattle.field.specs.Answers.{summed, multiplied, opposed, inverted};
 ghost use Rattle.script.specs.Commands.{view};
 ghost use Rattle.script.specs.Lines.{parsed};
-ghost use Rattle.console.specs.Answers.{Answers, Prints, Replied, field-after, field-then, kept, told};
+ghost use Rattle.console.specs.Answers.{Answers, Prints, field-after, field-then, kept, on-field, told};
 ghost use Rattle.console.specs.declared.answer.Failure.the-variants.{NoFieldYet};
 use crate::answer::Answer;
 use crate::answer::AnswerDisplay;
 use crate::answer::Failure;
 use crate::answer::FailureFromRefusal;
+use crate::levels;
 use any_field::AnyField;
 use any_field::AnyFieldField;
 use field::Field;
+use plain::Plain;
+use plain::PlainChain;
 use script::Command;
 use script::Line;
 use script::echo_of;
@@ -27,13 +31,16 @@ use std::alloc::Global;
 #[derive(Drop)]
 pub struct Session {
     field: Option<AnyField>,
+    chain: Option<Plain<AnyField>>,
+    // The length of the scratch that is handed to the calls.
+    scratch: u32,
 }
 
 impl Session {
     pub fn new() -> Session
         ensures { λ r. ⌜ r .field ≡ None ⌝ }
     {
-        Session { field: None }
+        Session { field: None, chain: None, scratch: 4096 }
     }
 
     // The line and its answer, as they are printed; nothing where the line is passed over.
@@ -43,35 +50,33 @@ impl Session {
     {
         let answer = match parse(heap, line)? {
             Line::PassedOver => return Ok(None),
-            Line::Understood(command) => self.answer(command),
+            Line::Understood(command) => self.answer(heap, command)?,
             Line::NotUnderstood => Answer::NotUnderstood,
         };
         let echo = echo_of(heap, line)?;
         Ok(Some(format!(heap, "{echo}\n{answer}\n")?))
     }
 
-    fn answer(&mut self, command: Command) -> Answer
-        ensures replied { λ r. ⌜ Replied (mapped meant (now (self .entry) .field)) (view command) r ⌝ }
-        ensures leaves { λ _. ⌜ mapped meant (now (self .exit) .field) ≡ field-after (mapped meant (now (self .entry) .field)) (view command) ⌝ }
-    {
-        match self.obey(command) {
-            Ok(answer) => answer,
-            Err(failure) => Answer::Failed(failure),
-        }
-    }
-
     // A command that fails leaves what stood before.
-    fn obey(&mut self, command: Command) -> Result<Answer, Failure>
-        ensures answers { λ r. ⌜ Answers (mapped meant (now (self .entry) .field)) (view command) r ⌝ }
-        ensures leaves { λ _. ⌜ mapped meant (now (self .exit) .field) ≡ field-after (mapped meant (now (self .entry) .field)) (view command) ⌝ }
+    fn answer(&mut self, heap: Global, command: Command) -> Result<Answer, AllocError>
+        ensures answers { λ r. ⌜ made r (λ a. Answers (mapped meant (now (self .entry) .field)) (view command) a) ⌝ }
+        ensures leaves { λ r. ⌜ made r (λ _. mapped meant (now (self .exit) .field) ≡ field-after (mapped meant (now (self .entry) .field)) (view command)) ⌝ }
     {
         match command {
-            Command::Field(q) => self.make_field(q),
-            Command::Sum(a, b) => Ok(Answer::Symbol(self.standing_field()?.sum(a, b)?)),
-            Command::Product(a, b) => Ok(Answer::Symbol(self.standing_field()?.product(a, b)?)),
-            Command::Opposite(a) => Ok(Answer::Symbol(self.standing_field()?.opposite(a)?)),
-            Command::Inverse(a) => Ok(Answer::Symbol(self.standing_field()?.inverse(a)?)),
-            Command::Sheet => Ok(Answer::Field(self.standing_field()?.order())),
+            Command::Field(q) => Ok(Answer::of(self.make_field(q))),
+            Command::Sum(a, b) => Ok(Answer::of(self.sum(a, b))),
+            Command::Product(a, b) => Ok(Answer::of(self.product(a, b))),
+            Command::Opposite(a) => Ok(Answer::of(self.opposite(a))),
+            Command::Inverse(a) => Ok(Answer::of(self.inverse(a))),
+            Command::Sheet => levels::sheet(heap, self.field, self.chain),
+            Command::Plain(m, kinds) => Ok(Answer::of(self.make_plain(m, kinds.as_slice()))),
+            Command::EncodeLevel(level, message) => levels::encoded(heap, self.chain, level, message.as_slice()),
+            Command::CorrectLevel(level, block) => levels::corrected(heap, self.chain, level, block.as_slice(), self.scratch),
+            Command::StripLevel(level, block) => levels::stripped(heap, self.chain, level, block.as_slice()),
+            Command::Scratch(bytes) => {
+                self.scratch = bytes;
+                Ok(Answer::Scratch(bytes))
+            }
         }
     }
 
@@ -88,5 +93,37 @@ impl Session {
         ensures { λ r. ⌜ r ≡ okOr (now (self .entry) .field) NoFieldYet ⌝ }
     {
         self.field.ok_or(Failure::NoFieldYet)
+    }
+
+    fn sum(&self, a: u8, b: u8) -> Result<Answer, Failure>
+        ensures { λ r. ⌜ r ≡ on-field (mapped meant (now (self .entry) .field)) (λ F. told Answer.Symbol (summed F a b)) ⌝ }
+    {
+        Ok(Answer::Symbol(self.standing_field()?.sum(a, b)?))
+    }
+
+    fn product(&self, a: u8, b: u8) -> Result<Answer, Failure>
+        ensures { λ r. ⌜ r ≡ on-field (mapped meant (now (self .entry) .field)) (λ F. told Answer.Symbol (multiplied F a b)) ⌝ }
+    {
+        Ok(Answer::Symbol(self.standing_field()?.product(a, b)?))
+    }
+
+    fn opposite(&self, a: u8) -> Result<Answer, Failure>
+        ensures { λ r. ⌜ r ≡ on-field (mapped meant (now (self .entry) .field)) (λ F. told Answer.Symbol (opposed F a)) ⌝ }
+    {
+        Ok(Answer::Symbol(self.standing_field()?.opposite(a)?))
+    }
+
+    fn inverse(&self, a: u8) -> Result<Answer, Failure>
+        ensures { λ r. ⌜ r ≡ on-field (mapped meant (now (self .entry) .field)) (λ F. told Answer.Symbol (inverted F a)) ⌝ }
+    {
+        Ok(Answer::Symbol(self.standing_field()?.inverse(a)?))
+    }
+
+    fn make_plain(&mut self, m: u8, kinds: &[u8]) -> Result<Answer, Failure>
+        ensures { λ _. ⌜ now (self .exit) .field ≡ now (self .entry) .field ⌝ }
+    {
+        let chain = Plain::new(self.standing_field()?, m as usize, kinds);
+        self.chain = Some(chain);
+        Ok(Answer::Chain(levels::flaw_number(&chain)))
     }
 }
