@@ -44,7 +44,12 @@ fn spaced(heap: Global, symbols: &[u8]) -> Result<Answer, AllocError> {
     Ok(Answer::Text(text))
 }
 
-pub(crate) fn encoded(heap: Global, chain: Option<Plain<AnyField>>, level: u8, message: &[u8]) -> Result<Answer, AllocError> {
+pub(crate) fn encoded(
+    heap: Global,
+    chain: Option<Plain<AnyField>>,
+    level: u8,
+    message: &[u8],
+) -> Result<Answer, AllocError> {
     let Some(chain) = chain else {
         return Ok(Answer::Failed(Failure::NoChainYet));
     };
@@ -55,7 +60,13 @@ pub(crate) fn encoded(heap: Global, chain: Option<Plain<AnyField>>, level: u8, m
     }
 }
 
-pub(crate) fn corrected(heap: Global, chain: Option<Plain<AnyField>>, level: u8, block: &[u8], scratch: u32) -> Result<Answer, AllocError> {
+pub(crate) fn corrected(
+    heap: Global,
+    chain: Option<Plain<AnyField>>,
+    level: u8,
+    block: &[u8],
+    scratch: u32,
+) -> Result<Answer, AllocError> {
     let Some(chain) = chain else {
         return Ok(Answer::Failed(Failure::NoChainYet));
     };
@@ -67,7 +78,12 @@ pub(crate) fn corrected(heap: Global, chain: Option<Plain<AnyField>>, level: u8,
     }
 }
 
-pub(crate) fn stripped(heap: Global, chain: Option<Plain<AnyField>>, level: u8, block: &[u8]) -> Result<Answer, AllocError> {
+pub(crate) fn stripped(
+    heap: Global,
+    chain: Option<Plain<AnyField>>,
+    level: u8,
+    block: &[u8],
+) -> Result<Answer, AllocError> {
     let Some(chain) = chain else {
         return Ok(Answer::Failed(Failure::NoChainYet));
     };
@@ -80,7 +96,11 @@ pub(crate) fn stripped(heap: Global, chain: Option<Plain<AnyField>>, level: u8, 
 }
 
 // The parameters of what stands.
-pub(crate) fn sheet(heap: Global, field: Option<AnyField>, chain: Option<Plain<AnyField>>) -> Result<Answer, AllocError> {
+pub(crate) fn sheet(
+    heap: Global,
+    field: Option<AnyField>,
+    chain: Option<Plain<AnyField>>,
+) -> Result<Answer, AllocError> {
     let Some(field) = field else {
         return Ok(Answer::Failed(Failure::NoFieldYet));
     };

@@ -40,7 +40,11 @@ impl Session {
     pub fn new() -> Session
         ensures { λ r. ⌜ r .field ≡ None ⌝ }
     {
-        Session { field: None, chain: None, scratch: 4096 }
+        Session {
+            field: None,
+            chain: None,
+            scratch: 4096,
+        }
     }
 
     // The line and its answer, as they are printed; nothing where the line is passed over.
@@ -70,9 +74,25 @@ impl Session {
             Command::Inverse(a) => Ok(Answer::of(self.inverse(a))),
             Command::Sheet => levels::sheet(heap, self.field, self.chain),
             Command::Plain(m, kinds) => Ok(Answer::of(self.make_plain(m, kinds.as_slice()))),
-            Command::EncodeLevel(level, message) => levels::encoded(heap, self.chain, level, message.as_slice()),
-            Command::CorrectLevel(level, block) => levels::corrected(heap, self.chain, level, block.as_slice(), self.scratch),
-            Command::StripLevel(level, block) => levels::stripped(heap, self.chain, level, block.as_slice()),
+            Command::EncodeLevel(level, message) => levels::encoded(
+                heap,
+                self.chain,
+                level,
+                message.as_slice(),
+            ),
+            Command::CorrectLevel(level, block) => levels::corrected(
+                heap,
+                self.chain,
+                level,
+                block.as_slice(),
+                self.scratch,
+            ),
+            Command::StripLevel(level, block) => levels::stripped(
+                heap,
+                self.chain,
+                level,
+                block.as_slice(),
+            ),
             Command::Scratch(bytes) => {
                 self.scratch = bytes;
                 Ok(Answer::Scratch(bytes))

@@ -1,8 +1,13 @@
-// A field written as an outside supplier would: it rests on the trait's crate alone. GF(4), with its whole product as a table.
+// A field and a chain written as an outside supplier would: they rest on the crates of the traits alone. GF(4), with its whole product as a table.
 ghost use mathlib.Core.Path.{_≡_};
 ghost use Rattle.supplied.specs.Quadratic.{four};
 use field::Field;
 use refusal::Refusal;
+
+mod triples;
+
+pub use triples::Triples;
+pub use triples::TriplesChain;
 
 // At 4a + b: the product of a and b.
 const PRODUCTS: [u8; 16] = [0, 0, 0, 0, 0, 1, 2, 3, 0, 2, 3, 1, 0, 3, 1, 2];
