@@ -1,33 +1,21 @@
 -- From a field of numbers, whose laws hold below q, to a field on the symbols, and back. Assumes nothing.
-use mathlib.Core.Path.{_≡_, refl, sym, ap, subst, _∙_}
+use mathlib.Core.Path.{_≡_, refl, ap}
 use mathlib.Core.Logic.{_≢_}
 use mathlib.Core.Bool.{Bool, true, false, cond}
 use mathlib.Core.HLevel.{Σ-prop-path, Σ-prop-discrete}
 use mathlib.Core.List.{List, [], _∷_, map}
 use Prim.Native.Nat.{ℕ, zero, suc, _+_, _≤_, _<_}
 use native.Mathlib.Bridge.{le-prop}
-use native.Mathlib.Decide.{decLt, decLe, ℕ-discrete}
+use native.Mathlib.Decide.{decLt, ℕ-discrete}
 use native.Mathlib.Omega.{arith}
-use lib.Dec.{T, eqb, eqb→eq}
+use lib.Dec.{eqb}
 use Rattle.std.specs.shelf.Lists.{All}
 use Rattle.field.specs.Meaning.{Meaning, IsField, first, opposite-of, inverse-of}
+use Rattle.field.proofs.Unique.{opposite-exact, inverse-exact}
 use Rattle.algebra.specs.FieldOn.{Ops, FieldOn}
 use Rattle.algebra.specs.Symbols.{Below, val}
-use Rattle.algebra.proofs.Ring.{neg-only, inv-only}
 
--- the search for the first number that passes a test finds one if there is one
-pub first-finds : (test : ℕ → Bool) (i n k : ℕ) → i ≤ k → k < i + n → T (test k) → T (test (first test i n))
-first-finds test i zero k l h t = absurd (omega arith)
-first-finds test i (suc n) k l h t = go (test i) refl (first-finds test (suc i) n k)
-  where
-    later : test i ≡ false → Dec (suc i ≤ k) → (suc i ≤ k → k < suc i + n → T (test k) → T (test (first test (suc i) n))) → T (test (first test (suc i) n))
-    later e (yes m) ih = ih m (omega arith) t
-    later e (no m) ih = let s : k ≡ i = omega arith in absurd (subst T (ap test s ∙ e) t)
-
-    go : (b : Bool) → test i ≡ b → (suc i ≤ k → k < suc i + n → T (test k) → T (test (first test (suc i) n))) → T (test (cond b i (first test (suc i) n)))
-    go true e ih = subst T (sym e) tt
-    go false e ih = later e (decLe (suc i) k) ih
-
+-- what the search for the first number that passes a test answers is a number below the bound
 pub first-below : (test : ℕ → Bool) (i n m : ℕ) → i + n ≤ m → 0 < m → first test i n < m
 first-below test i zero m h p = p
 first-below test i (suc n) m h p = go (test i) (first-below test (suc i) n m (omega arith) p)
@@ -68,18 +56,10 @@ module _ (F : Meaning) (laws : IsField F) where
   inverse-below a = first-below (λ b. eqb (F .product a b) 1) 0 (F .q) (F .q) (omega arith) positive
 
   pub sum-opposite : (a : ℕ) → a < F .q → F .sum a (opposite-of F a) ≡ 0
-  sum-opposite a h =
-      let e = laws .has-opposite a h in
-      let found : T (eqb (F .sum a (e .0)) 0) = subst (λ n. T (eqb n 0)) (sym (e .2)) tt in
-      let l = e .1 in
-      eqb→eq (F .sum a (opposite-of F a)) 0 (first-finds (λ b. eqb (F .sum a b) 0) 0 (F .q) (e .0) (omega arith) (omega arith) found)
+  sum-opposite a h = opposite-exact laws a h .holds
 
   pub product-inverse : (a : ℕ) → a < F .q → a ≢ 0 → F .product a (inverse-of F a) ≡ 1
-  product-inverse a h n =
-      let e = laws .has-inverse a h n in
-      let found : T (eqb (F .product a (e .0)) 1) = subst (λ n. T (eqb n 1)) (sym (e .2)) tt in
-      let l = e .1 in
-      eqb→eq (F .product a (inverse-of F a)) 1 (first-finds (λ b. eqb (F .product a b) 1) 0 (F .q) (e .0) (omega arith) (omega arith) found)
+  product-inverse a h n = inverse-exact laws a h n .holds
 
   pub below-same? : (a b : Below (F .q)) → Dec (a ≡ b)
   below-same? = Σ-prop-discrete (λ (n : ℕ). le-prop {n = suc n} {m = F .q}) ℕ-discrete
@@ -110,13 +90,6 @@ module _ (F : Meaning) (laws : IsField F) where
     one-not-zero = λ e. let z : _≡_ {A = ℕ} 1 0 = ap (λ (a : Below (F .q)). val a) e in omega arith;
     same? = below-same?;
   }
-
-  -- each symbol has exactly one opposite, and each but 0 exactly one inverse
-  pub opposite-only : (a b : ℕ) → a < F .q → b < F .q → F .sum a b ≡ 0 → b ≡ opposite-of F a
-  opposite-only a b h l e = ap (λ (x : Below (F .q)). val x) (neg-only over {a = (a, h)} {b = (b, l)} (val-injective e))
-
-  pub inverse-only : (a b : ℕ) → a < F .q → b < F .q → F .product a b ≡ 1 → b ≡ inverse-of F a
-  inverse-only a b h l e = ap (λ (x : Below (F .q)). val x) (inv-only over {a = (a, h)} {b = (b, l)} (val-injective e))
 
   pub vals-tos : (xs : List ℕ) → All (λ x. x < F .q) xs → map val (map to xs) ≡ xs
   vals-tos [] h = refl
