@@ -26,7 +26,7 @@ pub impl<T: Drop> From<Refused<T>> for Unread as UnreadFromRefused {
 }
 
 // Each word as a number.
-pub fn numbers_of(heap: Global, words: &[&[u8]]) -> Result<Vec<u32>, Unread>
+pub(crate) fn numbers_of(heap: Global, words: &[&[u8]]) -> Result<Vec<u32>, Unread>
     ensures { λ r. ⌜ Reads vec-items r (numbers (texts (now (words .entry)))) ⌝ }
 {
     let mut found = Vec::new(heap);
@@ -49,7 +49,7 @@ fn symbol_of(number: u32) -> Result<u8, Unread>
     }
 }
 
-pub fn none_of(numbers: &[u32]) -> Result<(), Unread>
+pub(crate) fn none_of(numbers: &[u32]) -> Result<(), Unread>
     ensures { λ r. ⌜ r ≡ okOr (none (now (numbers .entry))) NotUnderstood ⌝ }
 {
     match numbers {
@@ -58,7 +58,7 @@ pub fn none_of(numbers: &[u32]) -> Result<(), Unread>
     }
 }
 
-pub fn one_of(numbers: &[u32]) -> Result<u8, Unread>
+pub(crate) fn one_of(numbers: &[u32]) -> Result<u8, Unread>
     ensures { λ r. ⌜ r ≡ okOr (one (now (numbers .entry))) NotUnderstood ⌝ }
 {
     match numbers {
@@ -67,7 +67,7 @@ pub fn one_of(numbers: &[u32]) -> Result<u8, Unread>
     }
 }
 
-pub fn two_of(numbers: &[u32]) -> Result<(u8, u8), Unread>
+pub(crate) fn two_of(numbers: &[u32]) -> Result<(u8, u8), Unread>
     ensures { λ r. ⌜ r ≡ okOr (two (now (numbers .entry))) NotUnderstood ⌝ }
 {
     match numbers {
@@ -76,7 +76,7 @@ pub fn two_of(numbers: &[u32]) -> Result<(u8, u8), Unread>
     }
 }
 
-pub fn whole_of(numbers: &[u32]) -> Result<u32, Unread>
+pub(crate) fn whole_of(numbers: &[u32]) -> Result<u32, Unread>
     ensures { λ r. ⌜ r ≡ okOr (whole (now (numbers .entry))) NotUnderstood ⌝ }
 {
     match numbers {
@@ -85,7 +85,7 @@ pub fn whole_of(numbers: &[u32]) -> Result<u32, Unread>
     }
 }
 
-pub fn symbols_of(heap: Global, numbers: &[u32]) -> Result<Vec<u8>, Unread>
+pub(crate) fn symbols_of(heap: Global, numbers: &[u32]) -> Result<Vec<u8>, Unread>
     ensures { λ r. ⌜ Reads vec-items r (symbols (now (numbers .entry))) ⌝ }
 {
     let mut found = Vec::new(heap);
@@ -95,7 +95,7 @@ pub fn symbols_of(heap: Global, numbers: &[u32]) -> Result<Vec<u8>, Unread>
     Ok(found)
 }
 
-pub fn first_and_rest_of(heap: Global, numbers: &[u32]) -> Result<(u8, Vec<u8>), Unread>
+pub(crate) fn first_and_rest_of(heap: Global, numbers: &[u32]) -> Result<(u8, Vec<u8>), Unread>
     ensures { λ r. ⌜ Reads both-view r (first-and-rest (now (numbers .entry))) ⌝ }
 {
     let [first, rest @ ..] = numbers else {

@@ -116,7 +116,7 @@ fn command_of(heap: Global, name: Name, numbers: &[u32]) -> Result<Command, Unre
     }
 }
 
-pub fn command_in(heap: Global, first: &[u8], others: &[&[u8]]) -> Result<Command, Unread>
+pub(crate) fn command_in(heap: Global, first: &[u8], others: &[&[u8]]) -> Result<Command, Unread>
     ensures { λ r. ⌜ Reads view r (called (spelled (now (first .entry))) (numbers (texts (now (others .entry))))) ⌝ }
 {
     let name = name_of(first)?;
