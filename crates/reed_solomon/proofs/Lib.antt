@@ -1,0 +1,11 @@
+pub mod Words
+pub mod Points
+pub mod Sizes
+pub mod Lawfulness
+pub mod Rowwise
+pub mod Solving
+pub mod Outcomes
+pub mod Descent
+pub mod Powers
+pub mod Decoding
+pub mod Answering
