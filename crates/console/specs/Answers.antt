@@ -11,7 +11,7 @@ use Rattle.field.specs.Meaning.{Meaning}
 use Rattle.field.specs.Answers.{summed, multiplied, opposed, inverted}
 use Rattle.any_field.specs.Kinds.{of-order}
 use Rattle.script.specs.Echo.{echoed}
-use Rattle.script.specs.Commands.{Asked, field, sum, product, opposite, inverse, sheet, plain, encode-level, correct-level, strip-level, scratch}
+use Rattle.script.specs.Commands.{Asked, field, sum, product, opposite, inverse, sheet, reed-solomon, plain, encode-level, correct-level, strip-level, scratch}
 use Rattle.script.specs.Lines.{Heard, passed-over, not-understood, understood}
 use Rattle.console.specs.declared.answer.Answer.{Answer}
 use Rattle.console.specs.declared.answer.Answer.the-variants.{Field, Symbol, Scratch, NotUnderstood}
@@ -36,6 +36,7 @@ Answers F (opposite x) a = a ≡ replied (on-field F (λ G. told Symbol (opposed
 Answers F (inverse x) a = a ≡ replied (on-field F (λ G. told Symbol (inverted G x)))
 Answers F (scratch n) a = a ≡ Scratch n
 Answers F sheet a = Unit {0}
+Answers F (reed-solomon m ks) a = Unit {0}
 Answers F (plain m ks) a = Unit {0}
 Answers F (encode-level i xs) a = Unit {0}
 Answers F (correct-level i xs) a = Unit {0}
@@ -54,6 +55,7 @@ field-after F (product a b) = F
 field-after F (opposite a) = F
 field-after F (inverse a) = F
 field-after F sheet = F
+field-after F (reed-solomon m ks) = F
 field-after F (plain m ks) = F
 field-after F (encode-level i xs) = F
 field-after F (correct-level i xs) = F

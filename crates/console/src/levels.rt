@@ -3,13 +3,13 @@ ghost use mathlib.Core.Path.{_≡_};
 ghost use Rattle.console.specs.Levels.{number-or-0};
 use crate::answer::Answer;
 use crate::answer::Failure;
+use any_chain::AnyChain;
+use any_chain::AnyChainChain;
 use any_field::AnyField;
 use any_field::AnyFieldField;
 use chain::Chain;
 use chain::radius;
 use field::Field;
-use plain::Plain;
-use plain::PlainChain;
 use refusal::Refusal;
 use std::alloc::AllocError;
 use std::alloc::Global;
@@ -46,7 +46,7 @@ fn spaced(heap: Global, symbols: &[u8]) -> Result<Answer, AllocError> {
 
 pub(crate) fn encoded(
     heap: Global,
-    chain: Option<Plain<AnyField>>,
+    chain: Option<AnyChain>,
     level: u8,
     message: &[u8],
 ) -> Result<Answer, AllocError> {
@@ -62,7 +62,7 @@ pub(crate) fn encoded(
 
 pub(crate) fn corrected(
     heap: Global,
-    chain: Option<Plain<AnyField>>,
+    chain: Option<AnyChain>,
     level: u8,
     block: &[u8],
     scratch: u32,
@@ -80,7 +80,7 @@ pub(crate) fn corrected(
 
 pub(crate) fn stripped(
     heap: Global,
-    chain: Option<Plain<AnyField>>,
+    chain: Option<AnyChain>,
     level: u8,
     block: &[u8],
 ) -> Result<Answer, AllocError> {
@@ -99,7 +99,7 @@ pub(crate) fn stripped(
 pub(crate) fn sheet(
     heap: Global,
     field: Option<AnyField>,
-    chain: Option<Plain<AnyField>>,
+    chain: Option<AnyChain>,
 ) -> Result<Answer, AllocError> {
     let Some(field) = field else {
         return Ok(Answer::Failed(Failure::NoFieldYet));
@@ -120,7 +120,7 @@ pub(crate) fn sheet(
     Ok(Answer::Text(text))
 }
 
-fn level_line(heap: Global, chain: &Plain<AnyField>, level: usize) -> Result<String, AllocError> {
+fn level_line(heap: Global, chain: &AnyChain, level: usize) -> Result<String, AllocError> {
     let k = chain.size(level).unwrap_or(0);
     let d = chain.distance(level).unwrap_or(0);
     let t = radius(chain, level).unwrap_or(0);

@@ -15,11 +15,11 @@ use crate::answer::AnswerDisplay;
 use crate::answer::Failure;
 use crate::answer::FailureFromRefusal;
 use crate::levels;
+use any_chain::AnyChain;
+use any_chain::AnyChainChain;
 use any_field::AnyField;
 use any_field::AnyFieldField;
 use field::Field;
-use plain::Plain;
-use plain::PlainChain;
 use script::Command;
 use script::Line;
 use script::echo_of;
@@ -31,7 +31,7 @@ use std::alloc::Global;
 #[derive(Drop)]
 pub struct Session {
     field: Option<AnyField>,
-    chain: Option<Plain<AnyField>>,
+    chain: Option<AnyChain>,
     // The length of the scratch that is handed to the calls.
     scratch: u32,
 }
@@ -73,6 +73,7 @@ impl Session {
             Command::Opposite(a) => Ok(Answer::of(self.opposite(a))),
             Command::Inverse(a) => Ok(Answer::of(self.inverse(a))),
             Command::Sheet => levels::sheet(heap, self.field, self.chain),
+            Command::ReedSolomon(m, sizes) => Ok(Answer::of(self.make_reed_solomon(m, sizes.as_slice()))),
             Command::Plain(m, kinds) => Ok(Answer::of(self.make_plain(m, kinds.as_slice()))),
             Command::EncodeLevel(level, message) => levels::encoded(
                 heap,
@@ -142,7 +143,15 @@ impl Session {
     fn make_plain(&mut self, m: u8, kinds: &[u8]) -> Result<Answer, Failure>
         ensures { λ _. ⌜ now (self .exit) .field ≡ now (self .entry) .field ⌝ }
     {
-        let chain = Plain::new(self.standing_field()?, m as usize, kinds);
+        let chain = AnyChain::plain(self.standing_field()?, m as usize, kinds);
+        self.chain = Some(chain);
+        Ok(Answer::Chain(levels::flaw_number(&chain)))
+    }
+
+    fn make_reed_solomon(&mut self, m: u8, sizes: &[u8]) -> Result<Answer, Failure>
+        ensures { λ _. ⌜ now (self .exit) .field ≡ now (self .entry) .field ⌝ }
+    {
+        let chain = AnyChain::reed_solomon(self.standing_field()?, m as usize, sizes);
         self.chain = Some(chain);
         Ok(Answer::Chain(levels::flaw_number(&chain)))
     }

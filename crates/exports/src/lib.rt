@@ -3,11 +3,14 @@ ghost use Rattle.any_field.specs.Kinds.{of-order};
 ghost use mathlib.Core.Path.{_≡_};
 ghost use Rattle.exports.specs.Exported.{Encoded, Corrected, Stripped, number};
 ghost use Rattle.plain.specs.Kinds.{plain};
+ghost use Rattle.reed_solomon.specs.Code.{reed-solomon};
 use any_field::AnyField;
 use any_field::AnyFieldField;
 use chain::Chain;
 use plain::Plain;
 use plain::PlainChain;
+use reed_solomon::ReedSolomon;
+use reed_solomon::ReedSolomonChain;
 use refusal::Refusal;
 
 // 0, or the number of the refusal.
@@ -70,6 +73,60 @@ pub extern "C" fn link_plain_strip(
 {
     match AnyField::of_order(q) {
         Ok(field) => number_of(Plain::new(field, m, kinds).strip(level, block, out)),
+        Err(refusal) => refusal.number(),
+    }
+}
+
+// Over the field of q symbols, a Reed-Solomon chain's `encode`. A field that is refused is answered before anything else.
+#[unsafe(no_mangle)]
+pub extern "C" fn link_reed_solomon_encode(
+    q: u8,
+    m: usize,
+    sizes: &[u8],
+    level: usize,
+    message: &[u8],
+    out: &mut [u8],
+) -> u8
+    ensures { λ r. ⌜ Encoded reed-solomon (of-order q) m (now (sizes .entry)) level (now (message .entry)) (now (out .entry)) r (now (out .exit)) ⌝ }
+{
+    match AnyField::of_order(q) {
+        Ok(field) => number_of(ReedSolomon::new(field, m, sizes).encode(level, message, out)),
+        Err(refusal) => refusal.number(),
+    }
+}
+
+// The same of `correct`.
+#[unsafe(no_mangle)]
+pub extern "C" fn link_reed_solomon_correct(
+    q: u8,
+    m: usize,
+    sizes: &[u8],
+    level: usize,
+    block: &mut [u8],
+    scratch: &mut [u8],
+) -> u8
+    ensures { λ r. ⌜ Corrected reed-solomon (of-order q) m (now (sizes .entry)) level (now (block .entry)) (now (scratch .entry)) r (now (block .exit)) (now (scratch .exit)) ⌝ }
+{
+    match AnyField::of_order(q) {
+        Ok(field) => number_of(ReedSolomon::new(field, m, sizes).correct(level, block, scratch)),
+        Err(refusal) => refusal.number(),
+    }
+}
+
+// The same of `strip`.
+#[unsafe(no_mangle)]
+pub extern "C" fn link_reed_solomon_strip(
+    q: u8,
+    m: usize,
+    sizes: &[u8],
+    level: usize,
+    block: &[u8],
+    out: &mut [u8],
+) -> u8
+    ensures { λ r. ⌜ Stripped reed-solomon (of-order q) m (now (sizes .entry)) level (now (block .entry)) (now (out .entry)) r (now (out .exit)) ⌝ }
+{
+    match AnyField::of_order(q) {
+        Ok(field) => number_of(ReedSolomon::new(field, m, sizes).strip(level, block, out)),
         Err(refusal) => refusal.number(),
     }
 }

@@ -30,6 +30,7 @@ names =
     ∷ (codes "opposite", Name.Opposite)
     ∷ (codes "inverse", Name.Inverse)
     ∷ (codes "sheet", Name.Sheet)
+    ∷ (codes "reed-solomon", Name.ReedSolomon)
     ∷ (codes "plain", Name.Plain)
     ∷ (codes "encode-level", Name.EncodeLevel)
     ∷ (codes "correct-level", Name.CorrectLevel)
@@ -51,6 +52,7 @@ pub data Asked : Type 0 where
   field opposite inverse : ℕ → Asked
   sum product : ℕ → ℕ → Asked
   sheet : Asked
+  reed-solomon : ℕ → List ℕ → Asked
   plain : ℕ → List ℕ → Asked
   encode-level : ℕ → List ℕ → Asked
   correct-level : ℕ → List ℕ → Asked
@@ -64,6 +66,7 @@ view (Command.Product a b) = product a b
 view (Command.Opposite a) = opposite a
 view (Command.Inverse a) = inverse a
 view Command.Sheet = sheet
+view (Command.ReedSolomon a v) = reed-solomon a (vec-items v)
 view (Command.Plain a v) = plain a (vec-items v)
 view (Command.EncodeLevel a v) = encode-level a (vec-items v)
 view (Command.CorrectLevel a v) = correct-level a (vec-items v)
@@ -78,6 +81,7 @@ asked Name.Product ns = mapped (λ p. product (p .0) (p .1)) (two ns)
 asked Name.Opposite ns = mapped opposite (one ns)
 asked Name.Inverse ns = mapped inverse (one ns)
 asked Name.Sheet ns = mapped (λ _. sheet) (none ns)
+asked Name.ReedSolomon ns = mapped (λ p. reed-solomon (p .0) (p .1)) (first-and-rest ns)
 asked Name.Plain ns = mapped (λ p. plain (p .0) (p .1)) (first-and-rest ns)
 asked Name.EncodeLevel ns = mapped (λ p. encode-level (p .0) (p .1)) (first-and-rest ns)
 asked Name.CorrectLevel ns = mapped (λ p. correct-level (p .0) (p .1)) (first-and-rest ns)

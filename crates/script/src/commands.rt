@@ -24,6 +24,7 @@ pub enum Command {
     Opposite(u8),
     Inverse(u8),
     Sheet,
+    ReedSolomon(u8, Vec<u8>),
     Plain(u8, Vec<u8>),
     EncodeLevel(u8, Vec<u8>),
     CorrectLevel(u8, Vec<u8>),
@@ -39,6 +40,7 @@ enum Name {
     Opposite,
     Inverse,
     Sheet,
+    ReedSolomon,
     Plain,
     EncodeLevel,
     CorrectLevel,
@@ -46,13 +48,14 @@ enum Name {
     Scratch,
 }
 
-const NAMES: [(&[u8], Name); 11] = [
+const NAMES: [(&[u8], Name); 12] = [
     (b"field", Name::Field),
     (b"sum", Name::Sum),
     (b"product", Name::Product),
     (b"opposite", Name::Opposite),
     (b"inverse", Name::Inverse),
     (b"sheet", Name::Sheet),
+    (b"reed-solomon", Name::ReedSolomon),
     (b"plain", Name::Plain),
     (b"encode-level", Name::EncodeLevel),
     (b"correct-level", Name::CorrectLevel),
@@ -95,6 +98,10 @@ fn command_of(heap: Global, name: Name, numbers: &[u32]) -> Result<Command, Unre
         Name::Sheet => {
             none_of(numbers)?;
             Ok(Command::Sheet)
+        }
+        Name::ReedSolomon => {
+            let (first, rest) = first_and_rest_of(heap, numbers)?;
+            Ok(Command::ReedSolomon(first, rest))
         }
         Name::Plain => {
             let (first, rest) = first_and_rest_of(heap, numbers)?;
