@@ -3,7 +3,7 @@ mod reference;
 
 use reference::*;
 
-unsafe extern "C" {
+extern "C" {
     fn link_plain_encode(q: u8, m: usize, k: *const u8, kn: usize, level: usize, x: *const u8, xn: usize, out: *mut u8, on: usize) -> u8;
     fn link_plain_correct(q: u8, m: usize, k: *const u8, kn: usize, level: usize, b: *mut u8, bn: usize, s: *mut u8, sn: usize) -> u8;
     fn link_plain_strip(q: u8, m: usize, k: *const u8, kn: usize, level: usize, b: *const u8, bn: usize, out: *mut u8, on: usize) -> u8;
@@ -97,7 +97,7 @@ fn one_chain(random: &mut Random, f: &Field, chain: Chain, m: usize, numbers: &[
         for _ in 0..random.below(d + 1) {
             block[random.below(m)] = random.below(f.q) as u8;
         }
-        let small = f.q.checked_pow(k as u32).is_some_and(|n| n <= 400);
+        let small = f.q.checked_pow(k as u32).map_or(false, |n| n <= 400);
         let want = if small {
             nearest_of_all(f, chain, m, number, t, &block).map(|x| encode(f, chain, m, number, &x))
         } else if chain == Chain::ReedSolomon {

@@ -148,8 +148,9 @@ pub fn solve(f: &Field, rows: &mut [Vec<u8>], unknowns: usize) -> Option<Vec<u8>
     let mut pivots = Vec::with_capacity(unknowns);
     let mut top = 0;
     for column in 0..unknowns {
-        let Some(found) = (top..rows.len()).find(|r| rows[*r][column] != 0) else {
-            continue;
+        let found = match (top..rows.len()).find(|r| rows[*r][column] != 0) {
+            Some(row) => row,
+            None => continue,
         };
         rows.swap(top, found);
         let scale = f.inverse(rows[top][column]);

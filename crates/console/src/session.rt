@@ -73,7 +73,10 @@ impl Session {
             Command::Opposite(a) => Ok(Answer::of(self.opposite(a))),
             Command::Inverse(a) => Ok(Answer::of(self.inverse(a))),
             Command::Sheet => levels::sheet(heap, self.field, self.chain),
-            Command::ReedSolomon(m, sizes) => Ok(Answer::of(self.make_reed_solomon(m, sizes.as_slice()))),
+            Command::ReedSolomon(m, sizes) => Ok(Answer::of(self.make_reed_solomon(
+                m,
+                sizes.as_slice(),
+            ))),
             Command::Plain(m, kinds) => Ok(Answer::of(self.make_plain(m, kinds.as_slice()))),
             Command::EncodeLevel(level, message) => levels::encoded(
                 heap,

@@ -7,6 +7,8 @@ ghost use Rattle.reed_solomon.specs.Code.{reed-solomon};
 use any_field::AnyField;
 use any_field::AnyFieldField;
 use chain::Chain;
+use gf16::Gf16Field;
+use gfp::GfPField;
 use plain::Plain;
 use plain::PlainChain;
 use reed_solomon::ReedSolomon;
@@ -90,7 +92,19 @@ pub extern "C" fn link_reed_solomon_encode(
     ensures { λ r. ⌜ Encoded reed-solomon (of-order q) m (now (sizes .entry)) level (now (message .entry)) (now (out .entry)) r (now (out .exit)) ⌝ }
 {
     match AnyField::of_order(q) {
-        Ok(field) => number_of(ReedSolomon::new(field, m, sizes).encode(level, message, out)),
+        // One corrector for each field, so that no field is chosen in its loops.
+        Ok(field) => match field {
+            AnyField::Sixteen(f) => number_of(ReedSolomon::new(f, m, sizes).encode(
+                level,
+                message,
+                out,
+            )),
+            AnyField::Prime(f) => number_of(ReedSolomon::new(f, m, sizes).encode(
+                level,
+                message,
+                out,
+            )),
+        },
         Err(refusal) => refusal.number(),
     }
 }
@@ -108,7 +122,19 @@ pub extern "C" fn link_reed_solomon_correct(
     ensures { λ r. ⌜ Corrected reed-solomon (of-order q) m (now (sizes .entry)) level (now (block .entry)) (now (scratch .entry)) r (now (block .exit)) (now (scratch .exit)) ⌝ }
 {
     match AnyField::of_order(q) {
-        Ok(field) => number_of(ReedSolomon::new(field, m, sizes).correct(level, block, scratch)),
+        // One corrector for each field, so that no field is chosen in its loops.
+        Ok(field) => match field {
+            AnyField::Sixteen(f) => number_of(ReedSolomon::new(f, m, sizes).correct(
+                level,
+                block,
+                scratch,
+            )),
+            AnyField::Prime(f) => number_of(ReedSolomon::new(f, m, sizes).correct(
+                level,
+                block,
+                scratch,
+            )),
+        },
         Err(refusal) => refusal.number(),
     }
 }
@@ -126,7 +152,15 @@ pub extern "C" fn link_reed_solomon_strip(
     ensures { λ r. ⌜ Stripped reed-solomon (of-order q) m (now (sizes .entry)) level (now (block .entry)) (now (out .entry)) r (now (out .exit)) ⌝ }
 {
     match AnyField::of_order(q) {
-        Ok(field) => number_of(ReedSolomon::new(field, m, sizes).strip(level, block, out)),
+        // One corrector for each field, so that no field is chosen in its loops.
+        Ok(field) => match field {
+            AnyField::Sixteen(f) => number_of(ReedSolomon::new(f, m, sizes).strip(
+                level,
+                block,
+                out,
+            )),
+            AnyField::Prime(f) => number_of(ReedSolomon::new(f, m, sizes).strip(level, block, out)),
+        },
         Err(refusal) => refusal.number(),
     }
 }
