@@ -37,12 +37,12 @@ and-both true false s t = absurd t
 and-both false b s t = absurd s
 
 module _ {X : Type 0} where
-  every-among : (test : X → Bool) (xs : List X) → T (every test xs) → (x : X) → Among xs x → T (test x)
+  pub every-among : (test : X → Bool) (xs : List X) → T (every test xs) → (x : X) → Among xs x → T (test x)
   every-among test [] t x m = absurd m
   every-among test (y ∷ xs) t x (inl e) = subst (λ z. T (test z)) (sym e) (and-parts (test y) (every test xs) t .0)
   every-among test (y ∷ xs) t x (inr m) = every-among test xs (and-parts (test y) (every test xs) t .1) x m
 
-  among-every : (test : X → Bool) (xs : List X) → ((x : X) → Among xs x → T (test x)) → T (every test xs)
+  pub among-every : (test : X → Bool) (xs : List X) → ((x : X) → Among xs x → T (test x)) → T (every test xs)
   among-every test [] h = tt
   among-every test (y ∷ xs) h = and-both (test y) (every test xs) (h y (inl refl)) (among-every test xs (λ x m. h x (inr m)))
 
@@ -108,7 +108,7 @@ module _ {K : Type 0} (F : FieldOn K) {I : Type 0} (same : I → I → Bool) (te
     (λ h. reducible-tested s column js (nonsingular-reducible F s column (Among js) h)),
   )
 
-every-same : {X : Type 0} (f g : X → Bool) → ((x : X) → f x ≡ g x) → (xs : List X) → every f xs ≡ every g xs
+pub every-same : {X : Type 0} (f g : X → Bool) → ((x : X) → f x ≡ g x) → (xs : List X) → every f xs ≡ every g xs
 every-same f g h [] = refl
 every-same f g h (x ∷ xs) = ap (λ b. b && every f xs) (h x) ∙ ap (λ b. g x && b) (every-same f g h xs)
 

@@ -1,0 +1,13 @@
+pub mod Rows
+pub mod Clearing
+pub mod Passing
+pub mod Sentence
+pub mod Shape
+pub mod Sums
+pub mod Joined
+pub mod Sound
+pub mod Levels
+pub mod Listed
+pub mod Combined
+pub mod Apart
+pub mod Respect
