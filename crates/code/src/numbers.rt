@@ -68,6 +68,16 @@ fn count_choices(l: usize, s: usize) -> usize
 }
 
 impl<C: Chain> Code<C> {
+    // l, the columns of the matrix.
+    pub fn columns(&self) -> usize
+        ensures { λ r. ⌜ r ≡ told (code-flaw (holding (C·Chain .meaning (now (self .entry) .chain)) (now (self .entry) .l) (now (self .entry) .matrix))) (now (self .entry) .l) ⌝ }
+    {
+        match self.flaw() {
+            Some(_) => 0,
+            None => self.l,
+        }
+    }
+
     // k, the symbols of a message.
     pub fn message_length(&self) -> usize
         ensures { λ r. ⌜ r ≡ told (code-flaw (holding (C·Chain .meaning (now (self .entry) .chain)) (now (self .entry) .l) (now (self .entry) .matrix))) (k-of (holding (C·Chain .meaning (now (self .entry) .chain)) (now (self .entry) .l) (now (self .entry) .matrix))) ⌝ }

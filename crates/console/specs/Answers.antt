@@ -11,12 +11,13 @@ use Rattle.field.specs.Meaning.{Meaning}
 use Rattle.field.specs.Answers.{summed, multiplied, opposed, inverted}
 use Rattle.any_field.specs.Kinds.{of-order}
 use Rattle.script.specs.Echo.{echoed}
-use Rattle.script.specs.Commands.{Asked, field, sum, product, opposite, inverse, sheet, reed-solomon, plain, encode-level, correct-level, strip-level, scratch}
+use Rattle.script.specs.Commands.{Asked, field, sum, product, opposite, inverse, sheet, reed-solomon, plain, encode-level, correct-level, strip-level, code, encode, scratch}
 use Rattle.script.specs.Lines.{Heard, passed-over, not-understood, understood}
 use Rattle.console.specs.declared.answer.Answer.{Answer}
 use Rattle.console.specs.declared.answer.Answer.the-variants.{Field, Symbol, Scratch, NotUnderstood}
 use Rattle.console.specs.declared.answer.Failure.{Failure}
-use Rattle.console.specs.declared.answer.Failure.the-variants.{NoFieldYet, Refused}
+use Rattle.console.specs.declared.answer.Failure.the-variants.{NotYet, Refused}
+use Rattle.console.specs.declared.answer.Missing.the-variants as Missing
 use Rattle.console.specs.Printed.{printed, replied}
 
 abbrev pub told : {X : Type 0} → (X → Answer) → Result X Refusal → Result Answer Failure
@@ -24,10 +25,10 @@ told f (Ok x) = Ok (f x)
 told f (Err e) = Err (Refused e)
 
 abbrev pub on-field : Option Meaning → (Meaning → Result Answer Failure) → Result Answer Failure
-on-field None f = Err NoFieldYet
+on-field None f = Err (NotYet Missing.Field)
 on-field (Some F) f = f F
 
--- the answer to a command, where the field F stands or none; the answers that a chain gives are its own contracts', and are tested here
+-- the answer to a command, where the field F stands or none; what a chain or a code answers is told by its own contracts, and tested here
 abbrev pub Answers : Option Meaning → Asked → Answer → Type 0
 Answers F (field q) a = a ≡ replied (told (λ G. Field (G .q)) (of-order q))
 Answers F (sum x y) a = a ≡ replied (on-field F (λ G. told Symbol (summed G x y)))
@@ -41,6 +42,8 @@ Answers F (plain m ks) a = Unit {0}
 Answers F (encode-level i xs) a = Unit {0}
 Answers F (correct-level i xs) a = Unit {0}
 Answers F (strip-level i xs) a = Unit {0}
+Answers F (code l es) a = Unit {0}
+Answers F (encode xs) a = Unit {0}
 
 -- what is made stands, and a refusal leaves what stood before
 abbrev pub kept : {X : Type 0} → Option X → Result X Refusal → Option X
@@ -60,6 +63,8 @@ field-after F (plain m ks) = F
 field-after F (encode-level i xs) = F
 field-after F (correct-level i xs) = F
 field-after F (strip-level i xs) = F
+field-after F (code l es) = F
+field-after F (encode xs) = F
 field-after F (scratch n) = F
 
 -- a line shown again, and its answer, each with its newline

@@ -1,7 +1,7 @@
 // What the console answers, and how it prints it.
 ghost use mathlib.Core.Path.{_≡_};
 ghost use Rattle.std.specs.declared.option.Option.the-variants.{Some};
-ghost use Rattle.console.specs.Printed.{printed, printed-failure, replied};
+ghost use Rattle.console.specs.Printed.{printed, printed-failure, printed-missing, replied};
 ghost use Rattle.console.specs.declared.answer.Failure.the-variants.{Refused};
 use refusal::Refusal;
 use refusal::RefusalDisplay;
@@ -11,8 +11,9 @@ use std::fmt;
 pub enum Answer {
     Field(u8),
     Symbol(u8),
-    // A chain was made; its flaw's number, or 0.
+    // A chain or a code was made; its flaw's number, or 0.
     Chain(u8),
+    Code(u8),
     Scratch(u32),
     // Symbols, or the lines of a sheet.
     Text(String),
@@ -23,9 +24,16 @@ pub enum Answer {
 // Why a command that was understood has no answer of its own.
 #[derive(Clone, Copy)]
 pub enum Failure {
-    NoFieldYet,
-    NoChainYet,
+    NotYet(Missing),
     Refused(Refusal),
+}
+
+// What a command wants and no command has made.
+#[derive(Clone, Copy)]
+pub enum Missing {
+    Field,
+    Chain,
+    Code,
 }
 
 pub impl From<Refusal> for Failure as FailureFromRefusal {
@@ -55,6 +63,7 @@ pub impl fmt::Display for Answer as AnswerDisplay {
             Answer::Field(q) => write!(f, "field q {q}"),
             Answer::Symbol(a) => write!(f, "{a}"),
             Answer::Chain(flaw) => write!(f, "chain flaw {flaw}"),
+            Answer::Code(flaw) => write!(f, "code flaw {flaw}"),
             Answer::Scratch(bytes) => write!(f, "scratch {bytes}"),
             Answer::Text(text) => write!(f, "{text}"),
             Answer::Failed(failure) => write!(f, "{failure}"),
@@ -68,9 +77,20 @@ pub impl fmt::Display for Failure as FailureDisplay {
 
     fn fmt<W: fmt::Write>(&self, f: &mut fmt::Formatter<W>) -> fmt::Result {
         match self {
-            Failure::NoFieldYet => write!(f, "no field yet"),
-            Failure::NoChainYet => write!(f, "no chain yet"),
+            Failure::NotYet(missing) => write!(f, "no {missing} yet"),
             Failure::Refused(refusal) => write!(f, "{refusal}"),
+        }
+    }
+}
+
+pub impl fmt::Display for Missing as MissingDisplay {
+    ghost shown = { λ m. Some (printed-missing m) };
+
+    fn fmt<W: fmt::Write>(&self, f: &mut fmt::Formatter<W>) -> fmt::Result {
+        match self {
+            Missing::Field => write!(f, "field"),
+            Missing::Chain => write!(f, "chain"),
+            Missing::Code => write!(f, "code"),
         }
     }
 }

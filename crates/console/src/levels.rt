@@ -3,13 +3,10 @@ ghost use mathlib.Core.Path.{_≡_};
 ghost use Rattle.console.specs.Levels.{number-or-0};
 use crate::answer::Answer;
 use crate::answer::Failure;
+use crate::answer::Missing;
 use any_chain::AnyChain;
 use any_chain::AnyChainChain;
-use any_field::AnyField;
-use any_field::AnyFieldField;
 use chain::Chain;
-use chain::radius;
-use field::Field;
 use refusal::Refusal;
 use std::alloc::AllocError;
 use std::alloc::Global;
@@ -27,12 +24,12 @@ pub fn flaw_number<C: Chain>(chain: &C) -> u8
     }
 }
 
-fn refused(refusal: Refusal) -> Answer {
+pub(crate) fn refused(refusal: Refusal) -> Answer {
     Answer::Failed(Failure::Refused(refusal))
 }
 
 // The symbols with one space between two.
-fn spaced(heap: Global, symbols: &[u8]) -> Result<Answer, AllocError> {
+pub(crate) fn spaced(heap: Global, symbols: &[u8]) -> Result<String, AllocError> {
     let mut text = String::new(heap);
     for (i, symbol) in symbols.iter().enumerate() {
         if i > 0 {
@@ -41,7 +38,7 @@ fn spaced(heap: Global, symbols: &[u8]) -> Result<Answer, AllocError> {
         let digits = symbol.to_string(heap)?;
         text.push_str(digits.as_str())?;
     }
-    Ok(Answer::Text(text))
+    Ok(text)
 }
 
 pub(crate) fn encoded(
@@ -51,11 +48,11 @@ pub(crate) fn encoded(
     message: &[u8],
 ) -> Result<Answer, AllocError> {
     let Some(chain) = chain else {
-        return Ok(Answer::Failed(Failure::NoChainYet));
+        return Ok(Answer::Failed(Failure::NotYet(Missing::Chain)));
     };
     let mut out = vec![in heap; 0u8; chain.length()]?;
     match chain.encode(level as usize, message, out.as_mut_slice()) {
-        Ok(()) => spaced(heap, out.as_slice()),
+        Ok(()) => Ok(Answer::Text(spaced(heap, out.as_slice())?)),
         Err(refusal) => Ok(refused(refusal)),
     }
 }
@@ -68,12 +65,12 @@ pub(crate) fn corrected(
     scratch: u32,
 ) -> Result<Answer, AllocError> {
     let Some(chain) = chain else {
-        return Ok(Answer::Failed(Failure::NoChainYet));
+        return Ok(Answer::Failed(Failure::NotYet(Missing::Chain)));
     };
     let mut kept = block.to_vec(heap)?;
     let mut spare = vec![in heap; 0u8; MOST_SCRATCH.min(scratch as usize)]?;
     match chain.correct(level as usize, kept.as_mut_slice(), spare.as_mut_slice()) {
-        Ok(()) => spaced(heap, kept.as_slice()),
+        Ok(()) => Ok(Answer::Text(spaced(heap, kept.as_slice())?)),
         Err(refusal) => Ok(refused(refusal)),
     }
 }
@@ -85,44 +82,12 @@ pub(crate) fn stripped(
     block: &[u8],
 ) -> Result<Answer, AllocError> {
     let Some(chain) = chain else {
-        return Ok(Answer::Failed(Failure::NoChainYet));
+        return Ok(Answer::Failed(Failure::NotYet(Missing::Chain)));
     };
     let size = chain.size(level as usize).unwrap_or(0);
     let mut out = vec![in heap; 0u8; size]?;
     match chain.strip(level as usize, block, out.as_mut_slice()) {
-        Ok(()) => spaced(heap, out.as_slice()),
+        Ok(()) => Ok(Answer::Text(spaced(heap, out.as_slice())?)),
         Err(refusal) => Ok(refused(refusal)),
     }
-}
-
-// The parameters of what stands.
-pub(crate) fn sheet(
-    heap: Global,
-    field: Option<AnyField>,
-    chain: Option<AnyChain>,
-) -> Result<Answer, AllocError> {
-    let Some(field) = field else {
-        return Ok(Answer::Failed(Failure::NoFieldYet));
-    };
-    let q = field.order();
-    let mut text = format!(heap, "field q {q}")?;
-    if let Some(chain) = chain {
-        let flaw = flaw_number(&chain);
-        let m = chain.length();
-        let s = chain.levels();
-        let line = format!(heap, "\nchain flaw {flaw} m {m} s {s}")?;
-        text.push_str(line.as_str())?;
-        for level in 0..s {
-            let line = level_line(heap, &chain, level + 1)?;
-            text.push_str(line.as_str())?;
-        }
-    }
-    Ok(Answer::Text(text))
-}
-
-fn level_line(heap: Global, chain: &AnyChain, level: usize) -> Result<String, AllocError> {
-    let k = chain.size(level).unwrap_or(0);
-    let d = chain.distance(level).unwrap_or(0);
-    let t = radius(chain, level).unwrap_or(0);
-    format!(heap, "\nlevel {level} k {k} d {d} t {t}")
 }

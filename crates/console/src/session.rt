@@ -9,16 +9,21 @@ ghost use Rattle.field.specs.Answers.{summed, multiplied, opposed, inverted};
 ghost use Rattle.script.specs.Commands.{view};
 ghost use Rattle.script.specs.Lines.{parsed};
 ghost use Rattle.console.specs.Answers.{Answers, Prints, field-after, field-then, kept, on-field, told};
-ghost use Rattle.console.specs.declared.answer.Failure.the-variants.{NoFieldYet};
+ghost use Rattle.console.specs.declared.answer.Failure.the-variants.{NotYet};
+ghost use Rattle.console.specs.declared.answer.Missing.the-variants.{Field as FieldMissing};
 use crate::answer::Answer;
 use crate::answer::AnswerDisplay;
 use crate::answer::Failure;
 use crate::answer::FailureFromRefusal;
+use crate::answer::Missing;
+use crate::codes;
 use crate::levels;
+use crate::sheet;
 use any_chain::AnyChain;
 use any_chain::AnyChainChain;
 use any_field::AnyField;
 use any_field::AnyFieldField;
+use code::Code;
 use field::Field;
 use script::Command;
 use script::Line;
@@ -32,6 +37,7 @@ use std::alloc::Global;
 pub struct Session {
     field: Option<AnyField>,
     chain: Option<AnyChain>,
+    code: Option<Code<AnyChain>>,
     // The length of the scratch that is handed to the calls.
     scratch: u32,
 }
@@ -43,6 +49,7 @@ impl Session {
         Session {
             field: None,
             chain: None,
+            code: None,
             scratch: 4096,
         }
     }
@@ -72,7 +79,7 @@ impl Session {
             Command::Product(a, b) => Ok(Answer::of(self.product(a, b))),
             Command::Opposite(a) => Ok(Answer::of(self.opposite(a))),
             Command::Inverse(a) => Ok(Answer::of(self.inverse(a))),
-            Command::Sheet => levels::sheet(heap, self.field, self.chain),
+            Command::Sheet => sheet::sheet(heap, self.field, self.chain, self.code),
             Command::ReedSolomon(m, sizes) => Ok(Answer::of(self.make_reed_solomon(
                 m,
                 sizes.as_slice(),
@@ -97,6 +104,8 @@ impl Session {
                 level,
                 block.as_slice(),
             ),
+            Command::Code(l, entries) => Ok(Answer::of(self.make_code(l, entries.as_slice()))),
+            Command::Encode(message) => codes::encoded(heap, self.code, message.as_slice()),
             Command::Scratch(bytes) => {
                 self.scratch = bytes;
                 Ok(Answer::Scratch(bytes))
@@ -114,9 +123,9 @@ impl Session {
     }
 
     fn standing_field(&self) -> Result<AnyField, Failure>
-        ensures { λ r. ⌜ r ≡ okOr (now (self .entry) .field) NoFieldYet ⌝ }
+        ensures { λ r. ⌜ r ≡ okOr (now (self .entry) .field) (NotYet FieldMissing) ⌝ }
     {
-        self.field.ok_or(Failure::NoFieldYet)
+        self.field.ok_or(Failure::NotYet(Missing::Field))
     }
 
     fn sum(&self, a: u8, b: u8) -> Result<Answer, Failure>
@@ -157,5 +166,16 @@ impl Session {
         let chain = AnyChain::reed_solomon(self.standing_field()?, m as usize, sizes);
         self.chain = Some(chain);
         Ok(Answer::Chain(levels::flaw_number(&chain)))
+    }
+
+    fn make_code(&mut self, l: u8, entries: &[u8]) -> Result<Answer, Failure>
+        ensures { λ _. ⌜ now (self .exit) .field ≡ now (self .entry) .field ⌝ }
+    {
+        let Some(chain) = self.chain else {
+            return Err(Failure::NotYet(Missing::Chain));
+        };
+        let code = Code::new(chain, l as usize, entries);
+        self.code = Some(code);
+        Ok(Answer::Code(codes::flaw_number(&code)))
     }
 }

@@ -35,6 +35,8 @@ names =
     ∷ (codes "encode-level", Name.EncodeLevel)
     ∷ (codes "correct-level", Name.CorrectLevel)
     ∷ (codes "strip-level", Name.StripLevel)
+    ∷ (codes "code", Name.Code)
+    ∷ (codes "encode", Name.Encode)
     ∷ (codes "scratch", Name.Scratch)
     ∷ []
 
@@ -57,6 +59,8 @@ pub data Asked : Type 0 where
   encode-level : ℕ → List ℕ → Asked
   correct-level : ℕ → List ℕ → Asked
   strip-level : ℕ → List ℕ → Asked
+  code : ℕ → List ℕ → Asked
+  encode : List ℕ → Asked
   scratch : ℕ → Asked
 
 abbrev pub view : Command → Asked
@@ -71,6 +75,8 @@ view (Command.Plain a v) = plain a (vec-items v)
 view (Command.EncodeLevel a v) = encode-level a (vec-items v)
 view (Command.CorrectLevel a v) = correct-level a (vec-items v)
 view (Command.StripLevel a v) = strip-level a (vec-items v)
+view (Command.Code a v) = code a (vec-items v)
+view (Command.Encode v) = encode (vec-items v)
 view (Command.Scratch a) = scratch a
 
 -- the command of that name with those numbers, if there is one
@@ -86,6 +92,8 @@ asked Name.Plain ns = mapped (λ p. plain (p .0) (p .1)) (first-and-rest ns)
 asked Name.EncodeLevel ns = mapped (λ p. encode-level (p .0) (p .1)) (first-and-rest ns)
 asked Name.CorrectLevel ns = mapped (λ p. correct-level (p .0) (p .1)) (first-and-rest ns)
 asked Name.StripLevel ns = mapped (λ p. strip-level (p .0) (p .1)) (first-and-rest ns)
+asked Name.Code ns = mapped (λ p. code (p .0) (p .1)) (first-and-rest ns)
+asked Name.Encode ns = mapped encode (symbols ns)
 asked Name.Scratch ns = mapped scratch (whole ns)
 
 abbrev pub called : Option Name → Option (List ℕ) → Option Asked

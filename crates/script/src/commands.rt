@@ -29,6 +29,8 @@ pub enum Command {
     EncodeLevel(u8, Vec<u8>),
     CorrectLevel(u8, Vec<u8>),
     StripLevel(u8, Vec<u8>),
+    Code(u8, Vec<u8>),
+    Encode(Vec<u8>),
     Scratch(u32),
 }
 
@@ -45,10 +47,12 @@ enum Name {
     EncodeLevel,
     CorrectLevel,
     StripLevel,
+    Code,
+    Encode,
     Scratch,
 }
 
-const NAMES: [(&[u8], Name); 12] = [
+const NAMES: [(&[u8], Name); 14] = [
     (b"field", Name::Field),
     (b"sum", Name::Sum),
     (b"product", Name::Product),
@@ -60,6 +64,8 @@ const NAMES: [(&[u8], Name); 12] = [
     (b"encode-level", Name::EncodeLevel),
     (b"correct-level", Name::CorrectLevel),
     (b"strip-level", Name::StripLevel),
+    (b"code", Name::Code),
+    (b"encode", Name::Encode),
     (b"scratch", Name::Scratch),
 ];
 
@@ -119,6 +125,11 @@ fn command_of(heap: Global, name: Name, numbers: &[u32]) -> Result<Command, Unre
             let (first, rest) = first_and_rest_of(heap, numbers)?;
             Ok(Command::StripLevel(first, rest))
         }
+        Name::Code => {
+            let (first, rest) = first_and_rest_of(heap, numbers)?;
+            Ok(Command::Code(first, rest))
+        }
+        Name::Encode => Ok(Command::Encode(symbols_of(heap, numbers)?)),
         Name::Scratch => Ok(Command::Scratch(whole_of(numbers)?)),
     }
 }
