@@ -1,4 +1,5 @@
 // Compares the proved chains with an independent implementation, on random chains, messages and damaged blocks.
+mod codes;
 mod reference;
 
 use reference::*;
@@ -37,17 +38,17 @@ impl Proved<'_> {
 }
 
 // A fixed sequence of numbers, the same at every run.
-struct Random(u64);
+pub struct Random(u64);
 
 impl Random {
-    fn below(&mut self, n: usize) -> usize {
+    pub fn below(&mut self, n: usize) -> usize {
         self.0 ^= self.0 << 13;
         self.0 ^= self.0 >> 7;
         self.0 ^= self.0 << 17;
         (self.0 >> 11) as usize % n
     }
 
-    fn word(&mut self, n: usize, q: usize) -> Vec<u8> {
+    pub fn word(&mut self, n: usize, q: usize) -> Vec<u8> {
         (0..n).map(|_| self.below(q) as u8).collect()
     }
 }
@@ -59,7 +60,7 @@ fn check(good: bool, what: &str, q: u8, chain: Chain, m: usize, levels: &[u8]) {
     }
 }
 
-fn levels(random: &mut Random, chain: Chain, m: usize) -> Vec<u8> {
+pub fn levels(random: &mut Random, chain: Chain, m: usize) -> Vec<u8> {
     let mut numbers: Vec<u8> = (0..random.below(6)).map(|_| random.below(if chain == Chain::Plain { 4 } else { m + 2 }) as u8).collect();
     // Mostly in the order that has no flaw.
     if random.below(4) > 0 {
@@ -122,8 +123,17 @@ fn one_chain(random: &mut Random, f: &Field, chain: Chain, m: usize, numbers: &[
     blocks
 }
 
+// With two file names: writes a script of random codes and what the console must print for it.
 fn main() {
     let mut random = Random(0x9e37_79b9_7f4a_7c15);
+    let files: Vec<String> = std::env::args().skip(1).collect();
+    if let [script, expected] = &files[..] {
+        let (text, output, sound) = codes::write(&mut random, 70_000);
+        std::fs::write(script, text).unwrap();
+        std::fs::write(expected, output).unwrap();
+        println!("70000 codes, {sound} of them without a flaw");
+        return;
+    }
     let mut total = 0;
     for q in [3, 7, 16, 17] {
         let f = Field::new(q);
