@@ -6,7 +6,7 @@ use lib.ListN.{length}
 use Rattle.field.specs.Answers.{provided}
 use Rattle.chain.specs.Held.{held}
 use Rattle.reed_solomon.specs.Code.{flaw, size-of}
-use Rattle.reed_solomon.proofs.Answering.{message-fits, word-fits, early-passes, correct-yes, correct-no}
+use Rattle.reed_solomon.proofs.Answering.{message-fits, word-fits, correct-yes, correct-no}
 use Rattle.reed_solomon.proofs.Words.{all-symbols}
 use Rattle.reed_solomon.proofs.ReedSolomonChain.correct.Needs as need
 
@@ -35,9 +35,7 @@ returns-then-correct-block g c =
     let none = c .in-rest .ensures tt ∙ ap (flaw F m) is in
     let size = c .in-Continue-k .ensures tt ∙ ap (λ ks. provided (leb 1 (c .args .level) && leb (c .args .level) (length ks)) (size-of ks (c .args .level))) is in
     let all = subst T (c .if-not-are-symbols .ensures tt) tt in
-    let n = length (c .args .scratch .now) in
-    let yes-both = correct-yes F laws m (held (c .args .self .now .sizes)) none (c .args .level) (c .in-Continue-k .k) size (c .args .block .now) (c .if-block-self .left) all n (c .correct-block .last .block) (c .if-scratch-lt4096 .left) (c .if-correct-block .ensures tt) in
-    record { result = yes-both .0; after = yes-both .1; untouched = λ e. absurd (early-passes F laws m (held (c .args .self .now .sizes)) none (c .args .level) (c .in-Continue-k .k) size (c .args .block .now) (c .if-block-self .left) all n (c .if-scratch-lt4096 .left) e) }
+    correct-yes F laws m (held (c .args .self .now .sizes)) none (c .args .level) (c .in-Continue-k .k) size (c .args .block .now) (c .if-block-self .left) all (c .args .scratch .now) (c .correct-block .last .scratch) (c .correct-block .last .block) (c .if-scratch-lt4096 .left) (c .if-correct-block .ensures tt)
 
 pub returns-else-correct-block : need.returns-else-correct-block
 returns-else-correct-block g c =
@@ -48,6 +46,4 @@ returns-else-correct-block g c =
     let none = c .in-rest .ensures tt ∙ ap (flaw F m) is in
     let size = c .in-Continue-k .ensures tt ∙ ap (λ ks. provided (leb 1 (c .args .level) && leb (c .args .level) (length ks)) (size-of ks (c .args .level))) is in
     let all = subst T (c .if-not-are-symbols .ensures tt) tt in
-    let n = length (c .args .scratch .now) in
-    let no-both = correct-no F laws m (held (c .args .self .now .sizes)) none (c .args .level) (c .in-Continue-k .k) size (c .args .block .now) (c .if-block-self .left) all n (c .correct-block .last .block) (c .if-scratch-lt4096 .left) (c .if-correct-block .ensures tt) in
-    record { result = no-both .0; after = no-both .1; untouched = λ e. absurd (early-passes F laws m (held (c .args .self .now .sizes)) none (c .args .level) (c .in-Continue-k .k) size (c .args .block .now) (c .if-block-self .left) all n (c .if-scratch-lt4096 .left) e) }
+    correct-no F laws m (held (c .args .self .now .sizes)) none (c .args .level) (c .in-Continue-k .k) size (c .args .block .now) (c .if-block-self .left) all (c .args .scratch .now) (c .correct-block .last .scratch) (c .correct-block .last .block) (c .if-scratch-lt4096 .left) (c .if-correct-block .ensures tt)

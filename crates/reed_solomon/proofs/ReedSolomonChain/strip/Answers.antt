@@ -32,8 +32,7 @@ returns-then-read-message g c =
     let none = c .in-rest .ensures tt ∙ ap (flaw F m) is in
     let size = c .in-Continue-k .ensures tt ∙ ap (λ ks. provided (leb 1 (c .args .level) && leb (c .args .level) (length ks)) (size-of ks (c .args .level))) is in
     let all = subst T (c .if-not-are-symbols .ensures tt) tt in
-    let yes-both = strip-yes F laws m (held (c .args .self .now .sizes)) none (c .args .level) (c .in-Continue-k .k) size (c .args .block .now) (c .if-block-self .left) all (c .args .out .now) (c .if-out-k .left) (c .read-message .last .out) (c .if-read-message .ensures tt) in
-    record { result = yes-both .0; after = yes-both .1 }
+    strip-yes F laws m (held (c .args .self .now .sizes)) none (c .args .level) (c .in-Continue-k .k) size (c .args .block .now) (c .if-block-self .left) all (c .args .out .now) (c .if-out-k .left) (c .read-message .last .out) (c .if-read-message .ensures tt)
 
 pub returns-else-read-message : need.returns-else-read-message
 returns-else-read-message g c =
@@ -44,5 +43,4 @@ returns-else-read-message g c =
     let none = c .in-rest .ensures tt ∙ ap (flaw F m) is in
     let size = c .in-Continue-k .ensures tt ∙ ap (λ ks. provided (leb 1 (c .args .level) && leb (c .args .level) (length ks)) (size-of ks (c .args .level))) is in
     let all = subst T (c .if-not-are-symbols .ensures tt) tt in
-    let no-both = strip-no F laws m (held (c .args .self .now .sizes)) none (c .args .level) (c .in-Continue-k .k) size (c .args .block .now) (c .if-block-self .left) all (c .args .out .now) (c .if-out-k .left) (c .read-message .last .out) (c .if-read-message .ensures tt) in
-    record { result = no-both .0; after = no-both .1 }
+    strip-no F laws m (held (c .args .self .now .sizes)) none (c .args .level) (c .in-Continue-k .k) size (c .args .block .now) (c .if-block-self .left) all (c .args .out .now) (c .if-out-k .left) (c .read-message .last .out) (c .if-read-message .ensures tt)
