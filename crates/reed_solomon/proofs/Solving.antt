@@ -10,13 +10,13 @@ use Rattle.std.proofs.shelf.Elements.{all-getD, all-drop}
 use Rattle.field.specs.Meaning.{Meaning, IsField, opposite-of, inverse-of}
 use Rattle.field.specs.Words.{plus-scaled, scaled, sum-or-0, product-or-0, opposite-or-0}
 use Rattle.field.proofs.Accepted.{sum-or-0-is, product-or-0-is, opposite-or-0-is}
-use Rattle.field.proofs.Laws.{opposite-small}
-use Rattle.field.proofs.Unique.{zero-small}
+use Rattle.field.proofs.Laws.{opposite-small, zero-product}
+use Rattle.field.proofs.Unique.{zero-small, opposite-is}
 use Rattle.field.proofs.Vectors.{length-scaled}
 use Rattle.field.proofs.WordLaws.{drop-back}
 use Rattle.algebra.specs.Symbols.{numbers, Symbols}
 use Rattle.algebra.specs.Vectors.{plus, times, dot}
-use Rattle.algebra.specs.Systems.{cleared}
+use Rattle.algebra.specs.Systems.{cleared, lead}
 use Rattle.algebra.proofs.Bridge.{inverse-below}
 use Rattle.algebra.proofs.Systems.{lead-drop}
 use Rattle.reed_solomon.proofs.Words.{added-is, scaled-is}
@@ -66,6 +66,24 @@ module _ {F : Meaning} (laws : IsField F) where
       ∙ added-is F (drop c row) (scaled F f (drop c pivot)) (omega arith)
       ∙ ap (plus (numbers F) (drop c row)) (scaled-is F f (drop c pivot))
       ∙ ap (λ z. plus (numbers F) (drop c row) (times (numbers F) z (drop c pivot))) (is ∙ sym (ap₂ (λ r p. opposite-of F (F .product r (inverse-of F p))) (lead-drop (numbers F) row c) (lead-drop (numbers F) pivot c)))
+
+  -- a row whose entry is 0 already is its own clearing
+  plus-nothing : (r p : List ℕ) → length r ≡ length p → Symbols F r → Symbols F p → plus (numbers F) r (times (numbers F) 0 p) ≡ r
+  plus-nothing [] [] e sr sp = refl
+  plus-nothing [] (y ∷ p) e sr sp = absurd (omega arith)
+  plus-nothing (x ∷ r) [] e sr sp = absurd (omega arith)
+  plus-nothing (x ∷ r) (y ∷ p) e (hx, sr) (hy, sp) =
+      ap₂ _∷_ (ap (F .sum x) (zero-product laws y hy) ∙ laws .sum-zero x hx) (plus-nothing r p (omega arith) sr sp)
+
+  pub cleared-already : (pivot row : List ℕ) (c : ℕ) → length row ≡ length pivot → Symbols F (drop c pivot) → Symbols F (drop c row) → getD row c 0 ≡ 0 → drop c row ≡ cleared (numbers F) (drop c pivot) (drop c row)
+  cleared-already pivot row c long sp sr e =
+      let z = zero-small laws in
+      let lead-zero : lead (numbers F) (drop c row) ≡ 0 = lead-drop (numbers F) row c ∙ e in
+      let inverse = inverse-of F (lead (numbers F) (drop c pivot)) in
+      let factor : opposite-of F (F .product (lead (numbers F) (drop c row)) inverse) ≡ 0
+      = ap (λ x. opposite-of F (F .product x inverse)) lead-zero ∙ ap (opposite-of F) (zero-product laws inverse (inverse-below F laws _)) ∙ sym (opposite-is laws 0 0 z z (laws .sum-zero 0 z)) in
+      let same : length (drop c row) ≡ length (drop c pivot) = length-drop c row ∙ ap (λ n. n - c) long ∙ sym (length-drop c pivot) in
+      sym (ap (λ x. plus (numbers F) (drop c row) (times (numbers F) x (drop c pivot))) factor ∙ plus-nothing (drop c row) (drop c pivot) same sr sp)
 
   -- the unknown of the pivot row
   pub unknown-is : (inverse b d n s r : ℕ) → inverse < F .q → b < F .q → d < F .q → n ≡ opposite-or-0 F d → s ≡ sum-or-0 F b n → r ≡ product-or-0 F inverse s → r ≡ F .product inverse (F .sum b (opposite-of F d))

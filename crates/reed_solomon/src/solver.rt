@@ -76,6 +76,10 @@ fn clear_row<F: Field>(f: &F, pivot: &[u8], inverse: u8, row: &mut [u8], c: usiz
     requires row { ⌜ Symbols (F·Field .meaning (now f)) (drop c (now row)) ⌝ }
     ensures { λ _. ⌜ drop c (now (row .exit)) ≡ cleared (numbers (F·Field .meaning (now (f .entry)))) (drop c (now (pivot .entry))) (drop c (now (row .entry))) ⌝ }
 {
+    // Nothing to clear.
+    if row[c] == 0 {
+        return;
+    }
     let factor = negate(f, multiply(f, row[c], inverse));
     add_multiple(f, &mut row[c..], factor, &pivot[c..]);
 }

@@ -5,7 +5,7 @@ use lib.Dec.{T}
 use lib.ListN.{length, getD}
 use Rattle.field.specs.Words.{symbols}
 use Rattle.std.proofs.shelf.Lists.{take-rest, length-drop}
-use Rattle.reed_solomon.proofs.Solving.{factor-is, cleared-row, drop-symbol}
+use Rattle.reed_solomon.proofs.Solving.{factor-is, cleared-row, cleared-already, drop-symbol}
 use Rattle.reed_solomon.proofs.Words.{symbols-all}
 use Rattle.reed_solomon.proofs.solver.clear_row.Needs as need
 
@@ -34,3 +34,7 @@ returns g c =
     let laws = g .F·Field·met .lawful (c .args .f .now) in
     let factor = factor-is laws (getD row at 0) (c .args .inverse) (getD pivot at 0) _ _ (drop-symbol F row at within (c .pre .row)) (c .pre .inverse) (c .multiply .ensures) (c .negate-factor .ensures .value) in
     cleared-row laws pivot row (c .add-multiple .last .out) at _ (factor .0) (c .pre .long) (omega arith) (c .add-multiple .ensures)
+
+pub returns-then-row-c-eq0 : need.returns-then-row-c-eq0
+returns-then-row-c-eq0 g c =
+    cleared-already (g .F·Field·met .lawful (c .args .f .now)) (c .args .pivot .now) (c .args .row .now) (c .args .c) (c .pre .long) (c .pre .pivot) (c .pre .row) (c .if-row-c-eq0 .taken)
