@@ -1,4 +1,6 @@
 // Facts over any field, for the layers above: polynomials, distances, linear equations, matrices.
+#![tactic(auto)]
+
 ghost use Rattle.algebra.specs.Theorems.{RootsBounded, ValuesApart, NearestOnly, LocatorExists, LocatorAgrees, AgreeingOnly, TestDecides, FewZeroColumns};
 
 use field::Field;

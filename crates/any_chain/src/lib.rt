@@ -1,4 +1,6 @@
 // A chain of either kind that the link has, chosen when the program runs.
+#![tactic(auto)]
+
 ghost use Rattle.std.specs.Prelude.{◌≡◌};
 ghost use Rattle.any_field.specs.Kinds.{meant};
 ghost use Rattle.plain.specs.Kinds.{plain as plain_of_lem};

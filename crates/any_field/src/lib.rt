@@ -1,4 +1,6 @@
 // A field of either kind that the link has, chosen when the program runs.
+#![tactic(auto)]
+
 ghost use Rattle.std.specs.Prelude.{◌≡◌};
 ghost use Rattle.std.specs.Result.{result_map_both};
 ghost use Rattle.any_field.specs.Kinds.{meant, of_order};

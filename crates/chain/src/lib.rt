@@ -1,4 +1,6 @@
 // A chain of nested codes over one field, as the link uses one: what a supplier of a chain shows.
+#![tactic(auto)]
+
 ghost use Rattle.std.specs.Prelude.{◌≡◌};
 ghost use Rattle.chain.specs.Answers.{told, told_of_level, is_level};
 ghost use Rattle.chain.specs.Calls.{Encodes, Corrects, Strips};

@@ -1,4 +1,6 @@
 // A code joins a chain over any field with a matrix that is non-singular by columns.
+#![tactic(auto)]
+
 mod encoding;
 mod making;
 mod matrix;

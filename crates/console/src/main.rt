@@ -1,4 +1,6 @@
 // Reads a script on standard input, and prints each command with its answer.
+#![tactic(auto)]
+
 mod answer;
 mod codes;
 mod levels;

@@ -1,4 +1,6 @@
 // The chains' calls for programs in other languages: numbers and byte slices, and a refusal as its number.
+#![tactic(auto)]
+
 ghost use Rattle.any_field.specs.Kinds.{of_order};
 ghost use Rattle.std.specs.Prelude.{◌≡◌};
 ghost use Rattle.exports.specs.Exported.{Encoded, Corrected, Stripped, number};

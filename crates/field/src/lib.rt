@@ -1,4 +1,6 @@
 // A finite field, as the link uses one: what a supplier of a field shows, and the functions over symbols that all layers share.
+#![tactic(auto)]
+
 ghost use Rattle.std.specs.Prelude.{◌≡◌};
 ghost use Rattle.field.specs.Answers.{summed, multiplied, opposed, inverted};
 ghost use Rattle.field.specs.Meaning.{Meaning, IsField};

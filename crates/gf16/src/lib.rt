@@ -1,4 +1,6 @@
 // GF(16): polynomials over two elements modulo x⁴ + x + 1, a symbol's four bits being the coefficients.
+#![tactic(auto)]
+
 ghost use Rattle.std.specs.Prelude.{◌≡◌};
 ghost use Rattle.gf16.specs.Product.{sixteen};
 ghost use Rattle.gf16.specs.Tables.{is_field};

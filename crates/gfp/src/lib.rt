@@ -1,4 +1,6 @@
 // GF(p) for p = 3, 7 and 17: the numbers below p, with sum and product by remainder.
+#![tactic(auto)]
+
 ghost use Rattle.std.specs.Prelude.{◌≡◌, T};
 ghost use Rattle.std.specs.Result.{result_map_both};
 ghost use Rattle.gfp.specs.Modulo.{supported, modulo, made};

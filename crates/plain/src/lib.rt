@@ -1,4 +1,6 @@
 // The plain chain: levels of every word, of words whose symbols add to 0, and of one symbol repeated.
+#![tactic(auto)]
+
 use chain::LevelNumbers;
 
 mod kinds;

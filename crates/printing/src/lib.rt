@@ -1,4 +1,6 @@
 // The texts in which the console shows what the calls of a chain and of a code answer.
+#![tactic(auto)]
+
 mod calls;
 mod sheet;
 mod symbols;

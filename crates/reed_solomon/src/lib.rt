@@ -1,4 +1,6 @@
 // The Reed-Solomon chain over any field: words are the values of polynomials at the points 0 to m − 1.
+#![tactic(auto)]
+
 ghost use Rattle.std.specs.Prelude.{◌≡◌};
 ghost use Rattle.chain.specs.Held.{held};
 ghost use Rattle.reed_solomon.specs.Code.{reed_solomon};

@@ -1,4 +1,6 @@
 // Examples of the Reed-Solomon chain.
+#![tactic(auto)]
+
 #[cfg(test)]
 mod tests {
     use chain::Chain;

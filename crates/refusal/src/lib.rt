@@ -1,4 +1,6 @@
 // The refusals of the link: one case for each cause, with the number by which the outside knows it.
+#![tactic(auto)]
+
 ghost use Rattle.std.specs.Prelude.{◌≡◌, Some};
 ghost use Rattle.refusal.specs.Numbers.{refusal_number};
 ghost use Rattle.refusal.specs.Printed.{printed_refusal};

@@ -1,4 +1,6 @@
 // Reads the lines of a console script: their words, their numbers and the commands that they ask for.
+#![tactic(auto)]
+
 mod arguments;
 mod commands;
 mod lines;

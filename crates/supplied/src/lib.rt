@@ -1,4 +1,6 @@
 // A field and a chain written as an outside supplier would: they rest on the crates of the traits alone. GF(4), with its whole product as a table.
+#![tactic(auto)]
+
 ghost use Rattle.std.specs.Prelude.{◌≡◌};
 ghost use Rattle.supplied.specs.Quadratic.{four};
 ghost use Rattle.supplied.specs.Table.{is_field};
