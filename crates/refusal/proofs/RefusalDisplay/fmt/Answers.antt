@@ -13,9 +13,9 @@ two_parts r n tries is_none is_number =
     ∙ ap (λ m. codes "refused " ++ (decimal m ++ (codes " tries " ++ decimal tries))) (is_number ∙ ap refusal_number is_none)
     ∙ sym (ap printed_refusal is_none)
 
-pub returns-in-ok-write-2-clause-writes : goal.returns-in-ok-write-2-clause-writes
-returns-in-ok-write-2-clause-writes g c plain _ =
-    let front = c.in-ok-write.ensures.shows plain refl in
-    let back = c.in-ok-write-2.ensures.shows front.plain refl in
+pub returns-in_ok-write-2-clause-writes : goal.returns-in_ok-write-2-clause-writes
+returns-in_ok-write-2-clause-writes g c plain _ =
+    let front = c.in_ok-write.ensures.writes plain refl in
+    let back = c.in_ok-write-2.ensures.writes front.plain refl in
     has_written_of_eq _ _ _ _ _ (two_parts c.args.self.now c.number-number.result c.in-NoCodeword.tries c.in-NoCodeword.is c.number-number.ensures)
     (has_written_append _ _ _ _ _ _ front back)
