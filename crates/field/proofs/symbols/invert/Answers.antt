@@ -9,7 +9,7 @@ use Rattle.field.proofs.symbols.invert.Goals as goal
 pub returns : goal.returns
 returns g c =
     let F = g.F.Field.meaning c.args.f.now in
-    let value : c.unwrap-or.result ≡ inverse_or_0 F c.args.a = c.unwrap-or.ensures ∙ ap (λ r. result_unwrap_or r 0) c.inverse.ensures in
+    let value : c.unwrap_or.result ≡ inverse_or_0 F c.args.a = c.unwrap_or.ensures ∙ ap (λ r. result_unwrap_or r 0) c.inverse.ensures in
     record {
       value = value;
       only = λ small not0.

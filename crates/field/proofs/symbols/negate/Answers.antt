@@ -9,7 +9,7 @@ use Rattle.field.proofs.symbols.negate.Goals as goal
 pub returns : goal.returns
 returns g c =
     let F = g.F.Field.meaning c.args.f.now in
-    let value : c.unwrap-or.result ≡ opposite_or_0 F c.args.a = c.unwrap-or.ensures ∙ ap (λ r. result_unwrap_or r 0) c.opposite.ensures in
+    let value : c.unwrap_or.result ≡ opposite_or_0 F c.args.a = c.unwrap_or.ensures ∙ ap (λ r. result_unwrap_or r 0) c.opposite.ensures in
     record {
       value = value;
       only = λ small.

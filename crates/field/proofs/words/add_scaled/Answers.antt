@@ -8,7 +8,7 @@ use Rattle.std.proofs.lemmas.List.{drop-set-lt}
 use Rattle.field.proofs.words.add_scaled.Goals as goal
 
 pub loop-i-init : goal.loop-i-init
-loop-i-init g c = (refl, subst T c.if-not-are-symbols.ensures tt)
+loop-i-init g c = (refl, subst T c.if-not-are_symbols.ensures tt)
 
 pub loop-i-preserved : goal.loop-i-preserved
 loop-i-preserved g c =
@@ -20,7 +20,7 @@ loop-i-preserved g c =
     let in_v : i < length v = omega (arith, c.if-out-v.false) in
     let small : c.args.a < F.q = omega (arith, c.if-a-order.false, c.order.ensures) in
     let here = symbol_left F.q out i in_out c.loop-i.invariant.1 in
-    let term = scaled_term (g.met.F.Field.lawful c.args.f.now) c.args.a (get_or out i 0) (get_or v i 0) _ _ small here (symbol_at F.q v (subst T c.if-not-are-symbols-2.ensures tt) i in_v) c.multiply.ensures c.add.ensures in (
+    let term = scaled_term (g.met.F.Field.lawful c.args.f.now) c.args.a (get_or out i 0) (get_or v i 0) _ _ small here (symbol_at F.q v (subst T c.if-not-are_symbols-2.ensures tt) i in_v) c.multiply.ensures c.add.ensures in (
       scaled_more F c.args.a _ out v i _ in_out in_v term c.loop-i.invariant.0,
       subst (λ xs. T (symbols F.q xs)) (sym (drop-set-lt (i + 1) out i _ (omega arith))) (subst T (symbols_more F.q out i in_out here) c.loop-i.invariant.1),
     )
@@ -31,7 +31,7 @@ returns g c =
     let out = c.args.out.now in
     let v = c.args.v.now in
     let small : c.args.a < F.q = omega (arith, c.if-a-order.false, c.order.ensures) in
-    let good : addable F c.args.a out v ≡ true = true_is _ (both_hold _ _ (both_hold _ _ (both_hold _ _ (lt→ltb _ _ small) (subst T c.if-not-are-symbols.ensures tt)) (subst T c.if-not-are-symbols-2.ensures tt)) (subst (λ n. T (eqb (length out) n)) c.if-out-v.false (eqb_refl (length out)))) in
+    let good : addable F c.args.a out v ≡ true = true_is _ (both_hold _ _ (both_hold _ _ (both_hold _ _ (lt→ltb _ _ small) (subst T c.if-not-are_symbols.ensures tt)) (subst T c.if-not-are_symbols-2.ensures tt)) (subst (λ n. T (eqb (length out) n)) c.if-out-v.false (eqb_refl (length out)))) in
     let past : length c.loop-i.out ≤ c.loop-i.i = omega (arith, c.loop-i.auto.out, c.loop-i-test.false) in
     record {
       answer = sym (ap done_if good);

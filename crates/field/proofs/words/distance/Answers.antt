@@ -18,8 +18,8 @@ loop-i-preserved c =
       | else-a-i w ↦ (omega (arith, w.count-is, distance_same a b i la lb w.if-a-i.false, c.loop-i.invariant.0), omega (arith, w.count-is))
     ]
 
-pub overflow-add-result : goal.overflow-add-result
-overflow-add-result c = record { fits = omega (arith, c.loop-i.invariant.1, c.loop-i.auto.i-end, c.min-common.ensures, c.max.ensures, c.max.type-inv) }
+pub overflow_add-result : goal.overflow_add-result
+overflow_add-result c = record { fits = omega (arith, c.loop-i.invariant.1, c.loop-i.auto.i-end, c.min-common.ensures, c.max.ensures, c.max.type_inv) }
 
 pub returns : goal.returns
 returns c =

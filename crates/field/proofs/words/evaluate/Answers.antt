@@ -13,11 +13,11 @@ loop-i-preserved g c =
     let F = g.F.Field.meaning c.args.f.now in
     let small : c.args.x < F.q = omega (arith, c.if-x-order.false, c.order.ensures) in
     c.add-value.ensures
-    ∙ value_back (g.met.F.Field.lawful c.args.f.now) c.args.coefficients.now (subst T c.if-not-are-symbols.ensures tt) c.loop-i.i c.loop-i-test.true c.loop-i.auto.i _ _ _ small c.loop-i.invariant c.multiply.ensures
+    ∙ value_back (g.met.F.Field.lawful c.args.f.now) c.args.coefficients.now (subst T c.if-not-are_symbols.ensures tt) c.loop-i.i c.loop-i-test.true c.loop-i.auto.i _ _ _ small c.loop-i.invariant c.multiply.ensures
 
 pub returns : goal.returns
 returns g c =
     let F = g.F.Field.meaning c.args.f.now in
     let done : c.loop-i.i ≡ 0 = omega arith in
     let small : c.args.x < F.q = omega (arith, c.if-x-order.false, c.order.ensures) in
-    passed _ _ _ (both_hold _ _ (lt→ltb _ _ small) (subst T c.if-not-are-symbols.ensures tt)) (c.loop-i.invariant ∙ ap (λ k. value_at F c.args.x (drop k c.args.coefficients.now)) done)
+    passed _ _ _ (both_hold _ _ (lt→ltb _ _ small) (subst T c.if-not-are_symbols.ensures tt)) (c.loop-i.invariant ∙ ap (λ k. value_at F c.args.x (drop k c.args.coefficients.now)) done)

@@ -11,10 +11,10 @@ loop-i-init g c = sym (at_drop_all (total (g.F.Field.meaning c.args.f.now)) c.ar
 pub loop-i-preserved : goal.loop-i-preserved
 loop-i-preserved g c =
     c.add-sum.ensures
-    ∙ total_back (g.met.F.Field.lawful c.args.f.now) c.args.xs.now (subst T c.if-not-are-symbols.ensures tt) c.loop-i.i c.loop-i-test.true c.loop-i.auto.i _ c.loop-i.invariant
+    ∙ total_back (g.met.F.Field.lawful c.args.f.now) c.args.xs.now (subst T c.if-not-are_symbols.ensures tt) c.loop-i.i c.loop-i-test.true c.loop-i.auto.i _ c.loop-i.invariant
 
 pub returns : goal.returns
 returns g c =
     let F = g.F.Field.meaning c.args.f.now in
     let done : c.loop-i.i ≡ 0 = omega arith in
-    passed _ _ _ (subst T c.if-not-are-symbols.ensures tt) (c.loop-i.invariant ∙ ap (λ k. total F (drop k c.args.xs.now)) done)
+    passed _ _ _ (subst T c.if-not-are_symbols.ensures tt) (c.loop-i.invariant ∙ ap (λ k. total F (drop k c.args.xs.now)) done)

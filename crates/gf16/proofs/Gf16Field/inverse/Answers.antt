@@ -4,8 +4,8 @@ use Rattle.field.proofs.Accepted.{accepted_but_0}
 use Rattle.gf16.specs.Tables.{inverse_by_logs, logs_small}
 use Rattle.gf16.proofs.Gf16Field.inverse.Goals as goal
 
-pub overflow-sub-result : goal.overflow-sub-result
-overflow-sub-result c = omega (arith, logs_small (c.args.a - 1) (omega arith))
+pub overflow_sub-result : goal.overflow_sub-result
+overflow_sub-result c = omega (arith, logs_small (c.args.a - 1) (omega arith))
 
 pub returns : goal.returns
 returns c =

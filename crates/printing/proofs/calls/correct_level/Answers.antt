@@ -12,6 +12,6 @@ returns g c =
     let n = length c.as-mut-slice-2.result.now in
     text_is c.told.result string_bytes
     (told_by (correct_cause C i b n) (unwrap_or (word_near C i b) b) b (c.as-slice.ensures.value ∙ written_back c.correct-result.new.block _ _ (sym (c.correct-result.auto.block ∙ c.as-mut-slice.ensures.len))) c.correct-result.ensures.result c.correct-result.ensures.after
-    ∙ corrected_is C i b n c.args.scratch (c.as-mut-slice-2.ensures.len ∙ c.in-ok-spare.ensures.len ∙ c.min.ensures)
-    ∙ ap (λ b. corrected_text C i b c.args.scratch) (c.as-mut-slice.ensures.value ∙ c.in-ok-kept.ensures.items-if-clones-equal (λ x y e. e)))
+    ∙ corrected_is C i b n c.args.scratch (c.as-mut-slice-2.ensures.len ∙ c.in_ok-spare.ensures.len ∙ c.min.ensures)
+    ∙ ap (λ b. corrected_text C i b c.args.scratch) (c.as-mut-slice.ensures.value ∙ c.in_ok-kept.ensures.items-if-clones-equal (λ x y e. e)))
     c.told.ensures

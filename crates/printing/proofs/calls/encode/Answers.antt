@@ -13,5 +13,5 @@ returns g c =
     let out = c.as-mut-slice.result.now in
     text_is c.told.result string_bytes
     (told_by (encode_cause M xs (length out)) (codeword M xs) out (c.as-slice.ensures.value ∙ written_back c.encode-result.new.out _ _ (sym (c.encode-result.auto.out ∙ c.as-mut-slice.ensures.len))) c.encode-result.ensures.result c.encode-result.ensures.after
-    ∙ codeword_is M xs (length out) (c.as-mut-slice.ensures.len ∙ c.in-ok-out.ensures.len ∙ c.word-length.ensures))
+    ∙ codeword_is M xs (length out) (c.as-mut-slice.ensures.len ∙ c.in_ok-out.ensures.len ∙ c.word-length.ensures))
     c.told.ensures

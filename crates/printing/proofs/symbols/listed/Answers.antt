@@ -5,9 +5,9 @@ use Rattle.printing.proofs.symbols.listed.Goals as goal
 
 pub loop-symbol-preserved : goal.loop-symbol-preserved
 loop-symbol-preserved c =
-    symbol_more (string_bytes c.in-ok-text.text) c.in-Some.rest.now c.loop-symbol.symbol-index c.loop-symbol-test.true c.loop-symbol.invariant
-    (c.in-ok-push-str.ensures.bytes ∙ ap (λ bs. string_bytes c.loop-symbol.text ++ bs) (c.as-str.ensures.value ∙ c.in-ok-more.ensures.ok))
+    symbol_more (string_bytes c.in_ok-text.text) c.in-Some.rest.now c.loop-symbol.symbol-index c.loop-symbol-test.true c.loop-symbol.invariant
+    (c.in_ok-push-str.ensures.bytes ∙ ap (λ bs. string_bytes c.loop-symbol.text ++ bs) (c.as-str.ensures.value ∙ c.in_ok-more.ensures.ok))
 
 pub returns : goal.returns
 returns c =
-    symbols_whole c.in-Some.first.now c.in-Some.rest.now c.loop-symbol.symbol-index c.loop-symbol-test.false c.in-Some.ensures.cases.0 c.in-ok-text.ensures.ok c.loop-symbol.invariant
+    symbols_whole c.in-Some.first.now c.in-Some.rest.now c.loop-symbol.symbol-index c.loop-symbol-test.false c.in-Some.ensures.cases.0 c.in_ok-text.ensures.ok c.loop-symbol.invariant

@@ -13,11 +13,11 @@ correct-block-requires g c =
     let m = c.args.self.now.m in
     let is = c.as-slice-sizes.ensures in
     let none = c.in-default.ensures ∙ ap (flaw F m) is in
-    let size = c.in-ok-k.ensures ∙ ap (λ ks. provided (leb 1 c.args.level && leb c.args.level (length ks)) (size_of ks c.args.level)) is in
+    let size = c.in_ok-k.ensures ∙ ap (λ ks. provided (leb 1 c.args.level && leb c.args.level (length ks)) (size_of ks c.args.level)) is in
     let all = subst T c.if-not-are-symbols.ensures tt in
     record {
-      word = word_fits F laws m (held c.args.self.now.sizes) none c.args.level c.in-ok-k.k size c.args.block.now c.if-block-self.false all;
-      few = message_fits F laws m (held c.args.self.now.sizes) none c.args.level c.in-ok-k.k size c.args.block.now c.if-block-self.false all;
+      word = word_fits F laws m (held c.args.self.now.sizes) none c.args.level c.in_ok-k.k size c.args.block.now c.if-block-self.false all;
+      few = message_fits F laws m (held c.args.self.now.sizes) none c.args.level c.in_ok-k.k size c.args.block.now c.if-block-self.false all;
       room = omega (arith, c.if-scratch-lt4096.false);
       symbols = all_symbols F c.args.block.now all;
     }
@@ -29,9 +29,9 @@ returns-then-correct-block g c =
     let m = c.args.self.now.m in
     let is = c.as-slice-sizes.ensures in
     let none = c.in-default.ensures ∙ ap (flaw F m) is in
-    let size = c.in-ok-k.ensures ∙ ap (λ ks. provided (leb 1 c.args.level && leb c.args.level (length ks)) (size_of ks c.args.level)) is in
+    let size = c.in_ok-k.ensures ∙ ap (λ ks. provided (leb 1 c.args.level && leb c.args.level (length ks)) (size_of ks c.args.level)) is in
     let all = subst T c.if-not-are-symbols.ensures tt in
-    correct_yes F laws m (held c.args.self.now.sizes) none c.args.level c.in-ok-k.k size c.args.block.now c.if-block-self.false all c.args.scratch.now c.correct-block.new.scratch c.correct-block.new.block c.if-scratch-lt4096.false c.if-correct-block.ensures
+    correct_yes F laws m (held c.args.self.now.sizes) none c.args.level c.in_ok-k.k size c.args.block.now c.if-block-self.false all c.args.scratch.now c.correct-block.new.scratch c.correct-block.new.block c.if-scratch-lt4096.false c.if-correct-block.ensures
 
 pub returns-else-correct-block : goal.returns-else-correct-block
 returns-else-correct-block g c =
@@ -40,6 +40,6 @@ returns-else-correct-block g c =
     let m = c.args.self.now.m in
     let is = c.as-slice-sizes.ensures in
     let none = c.in-default.ensures ∙ ap (flaw F m) is in
-    let size = c.in-ok-k.ensures ∙ ap (λ ks. provided (leb 1 c.args.level && leb c.args.level (length ks)) (size_of ks c.args.level)) is in
+    let size = c.in_ok-k.ensures ∙ ap (λ ks. provided (leb 1 c.args.level && leb c.args.level (length ks)) (size_of ks c.args.level)) is in
     let all = subst T c.if-not-are-symbols.ensures tt in
-    correct_no F laws m (held c.args.self.now.sizes) none c.args.level c.in-ok-k.k size c.args.block.now c.if-block-self.false all c.args.scratch.now c.correct-block.new.scratch c.correct-block.new.block c.if-scratch-lt4096.false c.if-correct-block.ensures
+    correct_no F laws m (held c.args.self.now.sizes) none c.args.level c.in_ok-k.k size c.args.block.now c.if-block-self.false all c.args.scratch.now c.correct-block.new.scratch c.correct-block.new.block c.if-scratch-lt4096.false c.if-correct-block.ensures

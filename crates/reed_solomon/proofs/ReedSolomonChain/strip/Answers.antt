@@ -13,10 +13,10 @@ read-message-requires g c =
     let m = c.args.self.now.m in
     let is = c.as-slice-sizes.ensures in
     let none = c.in-default.ensures ∙ ap (flaw F m) is in
-    let size = c.in-ok-k.ensures ∙ ap (λ ks. provided (leb 1 c.args.level && leb c.args.level (length ks)) (size_of ks c.args.level)) is in
+    let size = c.in_ok-k.ensures ∙ ap (λ ks. provided (leb 1 c.args.level && leb c.args.level (length ks)) (size_of ks c.args.level)) is in
     let all = subst T c.if-not-are-symbols.ensures tt in
-    let few = message_fits F laws m (held c.args.self.now.sizes) none c.args.level c.in-ok-k.k size c.args.block.now c.if-block-self.false all in
-    let word = word_fits F laws m (held c.args.self.now.sizes) none c.args.level c.in-ok-k.k size c.args.block.now c.if-block-self.false all in
+    let few = message_fits F laws m (held c.args.self.now.sizes) none c.args.level c.in_ok-k.k size c.args.block.now c.if-block-self.false all in
+    let word = word_fits F laws m (held c.args.self.now.sizes) none c.args.level c.in_ok-k.k size c.args.block.now c.if-block-self.false all in
     record { word = word; few = omega (arith, few.1, word.1, c.if-out-k.false); symbols = all_symbols F c.args.block.now all }
 
 pub returns-then-read-message : goal.returns-then-read-message
@@ -26,9 +26,9 @@ returns-then-read-message g c =
     let m = c.args.self.now.m in
     let is = c.as-slice-sizes.ensures in
     let none = c.in-default.ensures ∙ ap (flaw F m) is in
-    let size = c.in-ok-k.ensures ∙ ap (λ ks. provided (leb 1 c.args.level && leb c.args.level (length ks)) (size_of ks c.args.level)) is in
+    let size = c.in_ok-k.ensures ∙ ap (λ ks. provided (leb 1 c.args.level && leb c.args.level (length ks)) (size_of ks c.args.level)) is in
     let all = subst T c.if-not-are-symbols.ensures tt in
-    strip_yes F laws m (held c.args.self.now.sizes) none c.args.level c.in-ok-k.k size c.args.block.now c.if-block-self.false all c.args.out.now c.if-out-k.false c.read-message.new.out c.if-read-message.ensures
+    strip_yes F laws m (held c.args.self.now.sizes) none c.args.level c.in_ok-k.k size c.args.block.now c.if-block-self.false all c.args.out.now c.if-out-k.false c.read-message.new.out c.if-read-message.ensures
 
 pub returns-else-read-message : goal.returns-else-read-message
 returns-else-read-message g c =
@@ -37,6 +37,6 @@ returns-else-read-message g c =
     let m = c.args.self.now.m in
     let is = c.as-slice-sizes.ensures in
     let none = c.in-default.ensures ∙ ap (flaw F m) is in
-    let size = c.in-ok-k.ensures ∙ ap (λ ks. provided (leb 1 c.args.level && leb c.args.level (length ks)) (size_of ks c.args.level)) is in
+    let size = c.in_ok-k.ensures ∙ ap (λ ks. provided (leb 1 c.args.level && leb c.args.level (length ks)) (size_of ks c.args.level)) is in
     let all = subst T c.if-not-are-symbols.ensures tt in
-    strip_no F laws m (held c.args.self.now.sizes) none c.args.level c.in-ok-k.k size c.args.block.now c.if-block-self.false all c.args.out.now c.if-out-k.false c.read-message.new.out c.if-read-message.ensures
+    strip_no F laws m (held c.args.self.now.sizes) none c.args.level c.in_ok-k.k size c.args.block.now c.if-block-self.false all c.args.out.now c.if-out-k.false c.read-message.new.out c.if-read-message.ensures

@@ -21,7 +21,7 @@ unfolding one all
 loop-word-preserved c =
     let words = c.args.words.now in
     let i = c.loop-word.word-index in
-    ap (λ ms. with_front ms (all (drop (i + 1) words))) c.in-ok-push.ensures.items
+    ap (λ ms. with_front ms (all (drop (i + 1) words))) c.in_ok-push.ensures.items
     ∙ read_more one all refl (λ _ _. refl) words (vec_items c.loop-word.found) i c.loop-word.invariant _ c.in-Some.number c.loop-word-test.true c.in-Some.ensures
 
 pub returns : goal.returns

@@ -11,8 +11,8 @@ loop-b-preserved c =
     let is : c.from.result ≡ shown b = c.from.ensures ∙ c.shown-as.ensures in
     let small : c.from.result < 128 = subst (λ x. x < 128) (sym is) (shown_ascii b) in
     byte_more (string_bytes c.push.new.self) c.args.word.now c.loop-b.b-index c.loop-b-test.true c.loop-b.invariant
-    (c.in-ok-push-2.ensures.bytes ∙ ap (λ bs. string_bytes c.loop-b.echo ++ bs) (c.push-in-loop-b.ensures.ascii small ∙ ap (λ x. x ∷ []) is))
+    (c.in_ok-push-2.ensures.bytes ∙ ap (λ bs. string_bytes c.loop-b.echo ++ bs) (c.push-in-loop-b.ensures.ascii small ∙ ap (λ x. x ∷ []) is))
 
 pub returns : goal.returns
 unfolding encode
-returns c = word_whole (string_bytes c.args.echo.now) c.args.word.now c.loop-b.b-index c.loop-b-test.false c.in-ok-push.ensures.bytes c.loop-b.invariant
+returns c = word_whole (string_bytes c.args.echo.now) c.args.word.now c.loop-b.b-index c.loop-b-test.false c.in_ok-push.ensures.bytes c.loop-b.invariant
