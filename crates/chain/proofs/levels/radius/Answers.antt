@@ -8,7 +8,7 @@ pub returns-in-Ok : goal.returns-in-Ok
 returns-in-Ok g c =
     let C = g.C.Chain.meaning c.args.c.now in
     record {
-      value = ap (λ x. Ok (x / 2)) c.saturating-sub.ensures ∙ told_radius C.flaw (is_level C c.args.level) (C.distance c.args.level) _ c.in-Ok.ensures;
+      value = ap (λ x. Ok (x / 2)) c.saturating_sub.ensures ∙ told_radius C.flaw (is_level C c.args.level) (C.distance c.args.level) _ c.in-Ok.ensures;
       follows = λ none i level. level_facts (g.met.C.Chain.lawful c.args.c.now none) i level;
     }
 
