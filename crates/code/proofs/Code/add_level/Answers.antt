@@ -10,18 +10,18 @@ use Rattle.code.proofs.Shape.{width_is}
 use Rattle.code.proofs.Sound.{sound, entry_small}
 use Rattle.code.proofs.Code.add_level.Goals as goal
 
-pub add-row-requires : goal.add-row-requires
-add-row-requires g c =
+pub add_row-requires : goal.add_row-requires
+add_row-requires g c =
     let self = c.args.self.now in
     let C = g.C.Chain.meaning self.chain in
     let M = holding C self.l self.matrix in
     let s = sound M c.requires.sound in
     let chain = g.met.C.Chain.lawful self.chain s.none in
     let same = sym c.field.ensures in
-    let word = subst (Word C.field C.m) (sym c.write-word.ensures) (chain.encodes c.args.level c.requires.level c.args.part.now c.requires.part) in
+    let word = subst (Word C.field C.m) (sym c.write_word.ensures) (chain.encodes c.args.level c.requires.level c.args.part.now c.requires.part) in
     record {
       entries = λ j. subst (λ G. entry_at (held self.matrix) c.args.level j < G.q) same (entry_small chain.over_field (held self.matrix) s.words c.args.level j);
-      word = subst (λ G. T (symbols G.q c.write-word.new.out)) same word.all;
+      word = subst (λ G. T (symbols G.q c.write_word.new.out)) same word.all;
       before = subst (λ G. T (symbols G.q c.args.out.now)) same c.requires.before.all;
       long = c.requires.before.long ∙ mul_comm C.m self.l ∙ ap₂ ◌*◌ (sym (width_is C self.l self.matrix chain.s_least s.shaped)) (sym word.long);
     }
@@ -37,6 +37,6 @@ returns g c =
     let rows = held self.matrix in
     let out = c.args.out.now in
     let i = c.args.level in
-    c.add-row.ensures
-    ∙ ap₂ (λ (G : fields.Meaning) (v : List ℕ). joined_to (λ j. plus_scaled G (entry_at rows i j) (piece (length v) out j) v) self.matrix.width) c.field.ensures c.write-word.ensures
+    c.add_row.ensures
+    ∙ ap₂ (λ (G : fields.Meaning) (v : List ℕ). joined_to (λ j. plus_scaled G (entry_at rows i j) (piece (length v) out j) v) self.matrix.width) c.field.ensures c.write_word.ensures
     ∙ ap₂ (λ n w. joined_to (λ j. plus_scaled C.field (entry_at rows i j) (piece n out j) (C.encoding i c.args.part.now)) w) word.long (width_is C self.l self.matrix chain.s_least s.shaped)

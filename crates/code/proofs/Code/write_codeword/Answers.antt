@@ -17,8 +17,8 @@ loop-i-init g c =
     let zeros = c.fill.ensures.after (λ y e. e) ∙ ap (λ n. replicate n 0) c.requires.long in
     (blocks_none M s (g.met.C.Chain.lawful self.chain s.none) c.args.message.now c.requires.word c.fill.new.self zeros, refl)
 
-pub overflow-add-start : goal.overflow-add-start
-overflow-add-start g c =
+pub overflow_add-start : goal.overflow_add-start
+overflow_add-start g c =
     let self = c.args.self.now in
     let M = holding (g.C.Chain.meaning self.chain) self.l self.matrix in
     let s = sound M c.requires.sound in
@@ -27,12 +27,12 @@ overflow-add-start g c =
     let word = c.requires.word in
     let i = c.loop-i.i in
     let below : i < M.chain.s = level_there M s chain xs word i c.levels-i-end.result c.loop-i-test.true c.levels-i-end.ensures in
-    let within : c.loop-i.start + c.size-of-size.result ≤ length xs = part_within M s chain xs word i c.loop-i.start c.size-of-size.result below c.loop-i.invariant.1 c.size-of-size.ensures in
+    let within : c.loop-i.start + c.size_of-size.result ≤ length xs = part_within M s chain xs word i c.loop-i.start c.size_of-size.result below c.loop-i.invariant.1 c.size_of-size.ensures in
     let short : length xs ≤ 128 = message_short M s chain xs word in
     omega arith
 
-pub slice-bounds-add-level-end : goal.slice-bounds-add-level-end
-slice-bounds-add-level-end g c =
+pub slice_bounds-add_level-end : goal.slice_bounds-add_level-end
+slice_bounds-add_level-end g c =
     let self = c.args.self.now in
     let M = holding (g.C.Chain.meaning self.chain) self.l self.matrix in
     let s = sound M c.requires.sound in
@@ -41,11 +41,11 @@ slice-bounds-add-level-end g c =
     let word = c.requires.word in
     let i = c.loop-i.i in
     let below : i < M.chain.s = level_there M s chain xs word i c.levels-i-end.result c.loop-i-test.true c.levels-i-end.ensures in
-    let within : c.loop-i.start + c.size-of-size.result ≤ length xs = part_within M s chain xs word i c.loop-i.start c.size-of-size.result below c.loop-i.invariant.1 c.size-of-size.ensures in
+    let within : c.loop-i.start + c.size_of-size.result ≤ length xs = part_within M s chain xs word i c.loop-i.start c.size_of-size.result below c.loop-i.invariant.1 c.size_of-size.ensures in
     within
 
-pub add-level-requires : goal.add-level-requires
-add-level-requires g c =
+pub add_level-requires : goal.add_level-requires
+add_level-requires g c =
     let self = c.args.self.now in
     let M = holding (g.C.Chain.meaning self.chain) self.l self.matrix in
     let s = sound M c.requires.sound in
@@ -57,12 +57,12 @@ add-level-requires g c =
     record {
       sound = c.requires.sound;
       level = record { from = omega arith; to = omega arith };
-      part = part_cut M s chain xs word i c.loop-i.start c.size-of-size.result below c.loop-i.invariant.1 c.size-of-size.ensures;
+      part = part_cut M s chain xs word i c.loop-i.start c.size_of-size.result below c.loop-i.invariant.1 c.size_of-size.ensures;
       before = subst (Word M.chain.field (n_of M)) (sym c.loop-i.invariant.0) (blocks_word M s chain xs word i (omega arith));
     }
 
-pub overflow-add-start-in-loop-i : goal.overflow-add-start-in-loop-i
-overflow-add-start-in-loop-i g c =
+pub overflow_add-start-in-loop-i : goal.overflow_add-start-in-loop-i
+overflow_add-start-in-loop-i g c =
     let self = c.args.self.now in
     let M = holding (g.C.Chain.meaning self.chain) self.l self.matrix in
     let s = sound M c.requires.sound in
@@ -71,7 +71,7 @@ overflow-add-start-in-loop-i g c =
     let word = c.requires.word in
     let i = c.loop-i.i in
     let below : i < M.chain.s = level_there M s chain xs word i c.levels-i-end.result c.loop-i-test.true c.levels-i-end.ensures in
-    let within : c.loop-i.start + c.size-of-size.result ≤ length xs = part_within M s chain xs word i c.loop-i.start c.size-of-size.result below c.loop-i.invariant.1 c.size-of-size.ensures in
+    let within : c.loop-i.start + c.size_of-size.result ≤ length xs = part_within M s chain xs word i c.loop-i.start c.size_of-size.result below c.loop-i.invariant.1 c.size_of-size.ensures in
     let short : length xs ≤ 128 = message_short M s chain xs word in
     omega arith
 
@@ -85,6 +85,6 @@ loop-i-preserved g c =
     let word = c.requires.word in
     let i = c.loop-i.i in
     let below : i < M.chain.s = level_there M s chain xs word i c.levels-i-end.result c.loop-i-test.true c.levels-i-end.ensures in (
-      blocks_more M s chain xs word i c.loop-i.start c.loop-i.out c.add-level.new.out c.size-of-size.result below c.loop-i.invariant.1 c.size-of-size.ensures c.loop-i.invariant.0 c.add-level.ensures,
-      sum_more M.chain.size i c.loop-i.start c.size-of-size.result c.loop-i.invariant.1 c.size-of-size.ensures,
+      blocks_more M s chain xs word i c.loop-i.start c.loop-i.out c.add_level.new.out c.size_of-size.result below c.loop-i.invariant.1 c.size_of-size.ensures c.loop-i.invariant.0 c.add_level.ensures,
+      sum_more M.chain.size i c.loop-i.start c.size_of-size.result c.loop-i.invariant.1 c.size_of-size.ensures,
     )

@@ -3,8 +3,8 @@ use Rattle.std.proofs.Common.{◌-◌, ◌*◌, ◌≤◌, sym, subst, arith}
 use Rattle.code.proofs.Sums.{falling_small, falling_more}
 use Rattle.code.proofs.numbers.count_choices.Goals as goal
 
-pub overflow-mul-product : goal.overflow-mul-product
-overflow-mul-product c =
+pub overflow_mul-product : goal.overflow_mul-product
+overflow_mul-product c =
     let l = c.args.l in
     let i = c.loop-i.i in
     let small : c.loop-i.product * (l - i) ≤ 16777216

@@ -18,4 +18,4 @@ returns g c =
     let b = c.args.block.now in
     let past : length out ≤ c.loop-i.i = omega (arith, c.loop-i.auto.out, c.loop-i-test.false) in
     let at_end : c.loop-i.i ≡ kind_size (length b) c.args.kind = omega (arith, c.loop-i.auto.i-end, c.loop-i-test.false, c.requires.long) in
-    (subst T c.if-not-is-of-kind.ensures tt, sym (take_all c.loop-i.i out past) ∙ c.loop-i.invariant ∙ ap (λ n. take n b) at_end)
+    (subst T c.if-not-is_of_kind.ensures tt, sym (take_all c.loop-i.i out past) ∙ c.loop-i.invariant ∙ ap (λ n. take n b) at_end)

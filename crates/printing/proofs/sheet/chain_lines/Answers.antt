@@ -7,7 +7,7 @@ use Rattle.printing.proofs.sheet.chain_lines.Goals as goal
 pub loop-i-preserved : goal.loop-i-preserved
 loop-i-preserved g c =
     line_more (string_bytes c.in_ok-text.text) (level_line (g.C.Chain.meaning c.args.chain.now)) c.loop-i.i c.loop-i.invariant
-    (c.in_ok-push-str.ensures.bytes ∙ ap (λ bs. string_bytes c.loop-i.text ++ bs) (c.as-str.ensures.value ∙ c.in_ok-line.ensures))
+    (c.in_ok-push_str.ensures.bytes ∙ ap (λ bs. string_bytes c.loop-i.text ++ bs) (c.as-str.ensures.value ∙ c.in_ok-line.ensures))
 
 pub returns : goal.returns
 returns g c =

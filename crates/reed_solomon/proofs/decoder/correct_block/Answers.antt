@@ -3,8 +3,8 @@ use Rattle.std.proofs.lemmas.List.{length-take-le}
 use Rattle.reed_solomon.proofs.Decoding.{zeros_symbols}
 use Rattle.reed_solomon.proofs.decoder.correct_block.Goals as goal
 
-pub correct-with-requires : goal.correct-with-requires
-correct-with-requires g c =
+pub correct_with-requires : goal.correct_with-requires
+correct_with-requires g c =
     let F = g.F.Field.meaning c.args.f.now in
     let laws = g.met.F.Field.lawful c.args.f.now in
     let m = length c.args.block.now in

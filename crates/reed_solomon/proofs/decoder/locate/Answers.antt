@@ -15,5 +15,5 @@ returns g c =
     let F = g.F.Field.meaning c.args.f.now in
     let b = c.args.block.now in
     let n = length c.args.xs.now - c.args.t in
-    located_found F (g.met.F.Field.lawful c.args.f.now) b c.requires.word.2 c.requires.symbols c.args.k c.args.t c.find-locator.new.xs c.find-locator.result n (c.find-locator.auto.xs ∙ c.requires.few.0) (omega (arith, c.requires.few.0)) (omega (arith, c.requires.few.0, c.requires.few.1))
-    (subst (λ k. Outcome F (locator_rows (numbers F) c.args.t n (points (length b)) b) k c.find-locator.result c.find-locator.new.xs) (sym c.find-locator.auto.xs) c.find-locator.ensures)
+    located_found F (g.met.F.Field.lawful c.args.f.now) b c.requires.word.2 c.requires.symbols c.args.k c.args.t c.find_locator.new.xs c.find_locator.result n (c.find_locator.auto.xs ∙ c.requires.few.0) (omega (arith, c.requires.few.0)) (omega (arith, c.requires.few.0, c.requires.few.1))
+    (subst (λ k. Outcome F (locator_rows (numbers F) c.args.t n (points (length b)) b) k c.find_locator.result c.find_locator.new.xs) (sym c.find_locator.auto.xs) c.find_locator.ensures)

@@ -3,8 +3,8 @@ use Rattle.std.proofs.lemmas.List.{length-take-le}
 use Rattle.reed_solomon.proofs.Decoding.{zeros_symbols}
 use Rattle.reed_solomon.proofs.decoder.read_message.Goals as goal
 
-pub read-with-requires : goal.read-with-requires
-read-with-requires g c =
+pub read_with-requires : goal.read_with-requires
+read_with-requires g c =
     let F = g.F.Field.meaning c.args.f.now in
     let laws = g.met.F.Field.lawful c.args.f.now in
     let k = length c.args.out.now in

@@ -12,14 +12,14 @@ use Rattle.reed_solomon.proofs.equations.+write_message_rows.Goals as goal
 pub value-e-requires : goal.value-e-requires
 value-e-requires g t c = (omega (arith, c.requires.points, c.if-ys-eq0.false), symbols_all (g.F.Field.meaning c.args.f.now) _ c.requires.locator)
 
-pub slice-bounds-write-message-row-end : goal.slice-bounds-write-message-row-end
-slice-bounds-write-message-row-end g t c = first_fits _ _ _ c.if-ys-eq0.false c.requires.long
+pub slice_bounds-write_message_row-end : goal.slice_bounds-write_message_row-end
+slice_bounds-write_message_row-end g t c = first_fits _ _ _ c.if-ys-eq0.false c.requires.long
 
-pub slice-bounds-write-message-row-end-2 : goal.slice-bounds-write-message-row-end-2
-slice-bounds-write-message-row-end-2 g t c = sym (length-take-le _ c.args.rows.now (first_fits _ _ _ c.if-ys-eq0.false c.requires.long))
+pub slice_bounds-write_message_row-end-2 : goal.slice_bounds-write_message_row-end-2
+slice_bounds-write_message_row-end-2 g t c = sym (length-take-le _ c.args.rows.now (first_fits _ _ _ c.if-ys-eq0.false c.requires.long))
 
-pub write-message-row-requires : goal.write-message-row-requires
-write-message-row-requires g t c =
+pub write_message_row-requires : goal.write_message_row-requires
+write_message_row-requires g t c =
     let F = g.F.Field.meaning c.args.f.now in
     let ys = c.args.ys.now in
     let pos : 0 < length ys = omega (arith, c.if-ys-eq0.false) in
@@ -30,24 +30,24 @@ write-message-row-requires g t c =
       symbol = All-get_or (λ y. y < F.q) ys 0 0 pos c.requires.symbols;
     }
 
-pub slice-bounds-write-message-rows-count : goal.slice-bounds-write-message-rows-count
-slice-bounds-write-message-rows-count g t c = written_fits c.write-message-row.new.row _ _ (c.write-message-row.auto.row ∙ length-take-le _ c.args.rows.now (first_fits _ _ _ c.if-ys-eq0.false c.requires.long))
+pub slice_bounds-write_message_rows-count : goal.slice_bounds-write_message_rows-count
+slice_bounds-write_message_rows-count g t c = written_fits c.write_message_row.new.row _ _ (c.write_message_row.auto.row ∙ length-take-le _ c.args.rows.now (first_fits _ _ _ c.if-ys-eq0.false c.requires.long))
 
-pub slice-bounds-write-message-rows-start : goal.slice-bounds-write-message-rows-start
-slice-bounds-write-message-rows-start g t c = written_fits c.write-message-row.new.row _ _ (c.write-message-row.auto.row ∙ length-take-le _ c.args.rows.now (first_fits _ _ _ c.if-ys-eq0.false c.requires.long))
+pub slice_bounds-write_message_rows-start : goal.slice_bounds-write_message_rows-start
+slice_bounds-write_message_rows-start g t c = written_fits c.write_message_row.new.row _ _ (c.write_message_row.auto.row ∙ length-take-le _ c.args.rows.now (first_fits _ _ _ c.if-ys-eq0.false c.requires.long))
 
-pub write-message-rows-requires : goal.write-message-rows-requires
-write-message-rows-requires g t c κs within =
+pub write_message_rows-requires : goal.write_message_rows-requires
+write_message_rows-requires g t c κs within =
     let F = g.F.Field.meaning c.args.f.now in
     let ys = c.args.ys.now in
     let rows = c.args.rows.now in
     let l = length_rest ys in
-    let long : length c.write-message-row.new.row ≡ c.args.k + 1 = c.write-message-row.auto.row ∙ length-take-le _ rows (first_fits _ _ _ c.if-ys-eq0.false c.requires.long) in (
+    let long : length c.write_message_row.new.row ≡ c.args.k + 1 = c.write_message_row.auto.row ∙ length-take-le _ rows (first_fits _ _ _ c.if-ys-eq0.false c.requires.long) in (
       (let less : length (take (length ys - 1) (drop 1 ys)) < t = omega (arith, l, c.decreases, c.if-ys-eq0.false) in less),
       (
         within,
         (
-          filled_rest F (λ x y. message_row (numbers F) c.args.k (value (numbers F) c.args.locator.now x) x y) (c.args.k + 1) _ c.args.x rows c.write-message-row.new.row rows ys c.if-ys-eq0.false c.requires.long long (omega arith),
+          filled_rest F (λ x y. message_row (numbers F) c.args.k (value (numbers F) c.args.locator.now x) x y) (c.args.k + 1) _ c.args.x rows c.write_message_row.new.row rows ys c.if-ys-eq0.false c.requires.long long (omega arith),
           (
             omega (arith, l, c.requires.points, c.if-ys-eq0.false),
             (
@@ -64,5 +64,5 @@ returns g t c =
     let F = g.F.Field.meaning c.args.f.now in
     let ys = c.args.ys.now in
     let rows = c.args.rows.now in
-    let long : length c.write-message-row.new.row ≡ c.args.k + 1 = c.write-message-row.auto.row ∙ length-take-le _ rows (first_fits _ _ _ c.if-ys-eq0.false c.requires.long) in
-    filled F (λ x y. message_row (numbers F) c.args.k (value (numbers F) c.args.locator.now x) x y) (c.args.k + 1) _ c.args.x rows c.write-message-row.new.row c.write-message-rows.new.rows ys c.if-ys-eq0.false c.requires.long long (omega arith) (c.write-message-row.ensures ∙ ap (λ e. message_row (numbers F) c.args.k e c.args.x (get_or ys 0 0)) (c.value-e.ensures ∙ value_is F c.args.locator.now c.args.x)) c.write-message-rows.ensures
+    let long : length c.write_message_row.new.row ≡ c.args.k + 1 = c.write_message_row.auto.row ∙ length-take-le _ rows (first_fits _ _ _ c.if-ys-eq0.false c.requires.long) in
+    filled F (λ x y. message_row (numbers F) c.args.k (value (numbers F) c.args.locator.now x) x y) (c.args.k + 1) _ c.args.x rows c.write_message_row.new.row c.write_message_rows.new.rows ys c.if-ys-eq0.false c.requires.long long (omega arith) (c.write_message_row.ensures ∙ ap (λ e. message_row (numbers F) c.args.k e c.args.x (get_or ys 0 0)) (c.value-e.ensures ∙ value_is F c.args.locator.now c.args.x)) c.write_message_rows.ensures

@@ -13,14 +13,14 @@ use Rattle.reed_solomon.proofs.equations.find_locator.Goals as goal
 room : (m k s : ℕ) → m ≤ 32 → k ≤ 32 → 1056 ≤ s → m * (k + 1) ≤ s
 room m k s hm hk hs = let p = product_most m (k + 1) hm (omega arith) in omega arith
 
-pub slice-bounds-write-locator-rows-end : goal.slice-bounds-write-locator-rows-end
-slice-bounds-write-locator-rows-end g c = room _ _ _ c.requires.word.1 c.requires.few.1 c.requires.room
+pub slice_bounds-write_locator_rows-end : goal.slice_bounds-write_locator_rows-end
+slice_bounds-write_locator_rows-end g c = room _ _ _ c.requires.word.1 c.requires.few.1 c.requires.room
 
-pub slice-bounds-write-locator-rows-end-2 : goal.slice-bounds-write-locator-rows-end-2
-slice-bounds-write-locator-rows-end-2 g c = sym (length-take-le _ c.args.scratch.now (room _ _ _ c.requires.word.1 c.requires.few.1 c.requires.room))
+pub slice_bounds-write_locator_rows-end-2 : goal.slice_bounds-write_locator_rows-end-2
+slice_bounds-write_locator_rows-end-2 g c = sym (length-take-le _ c.args.scratch.now (room _ _ _ c.requires.word.1 c.requires.few.1 c.requires.room))
 
-pub write-locator-rows-requires : goal.write-locator-rows-requires
-write-locator-rows-requires g c =
+pub write_locator_rows-requires : goal.write_locator_rows-requires
+write_locator_rows-requires g c =
     let xs = c.args.xs.now in
     let ys = c.args.ys.now in
     record {
@@ -30,12 +30,12 @@ write-locator-rows-requires g c =
       symbols = c.requires.symbols;
     }
 
-pub slice-bounds-solve-end : goal.slice-bounds-solve-end
-slice-bounds-solve-end g c = written_fits c.write-locator-rows.new.rows _ _ (c.write-locator-rows.auto.rows ∙ length-take-le _ c.args.scratch.now (room _ _ _ c.requires.word.1 c.requires.few.1 c.requires.room))
+pub slice_bounds-solve-end : goal.slice_bounds-solve-end
+slice_bounds-solve-end g c = written_fits c.write_locator_rows.new.rows _ _ (c.write_locator_rows.auto.rows ∙ length-take-le _ c.args.scratch.now (room _ _ _ c.requires.word.1 c.requires.few.1 c.requires.room))
 
-pub slice-bounds-solve-end-2 : goal.slice-bounds-solve-end-2
-slice-bounds-solve-end-2 g c =
-    sym (length-take-le _ _ (written_fits c.write-locator-rows.new.rows _ _ (c.write-locator-rows.auto.rows ∙ length-take-le _ c.args.scratch.now (room _ _ _ c.requires.word.1 c.requires.few.1 c.requires.room))))
+pub slice_bounds-solve-end-2 : goal.slice_bounds-solve-end-2
+slice_bounds-solve-end-2 g c =
+    sym (length-take-le _ _ (written_fits c.write_locator_rows.new.rows _ _ (c.write_locator_rows.auto.rows ∙ length-take-le _ c.args.scratch.now (room _ _ _ c.requires.word.1 c.requires.few.1 c.requires.room))))
 
 pub solve-requires : goal.solve-requires
 solve-requires g c =
@@ -43,15 +43,15 @@ solve-requires g c =
     let laws = g.met.F.Field.lawful c.args.f.now in
     let xs = c.args.xs.now in
     let ys = c.args.ys.now in
-    let rows = c.write-locator-rows.new.rows in
-    let long : length rows ≡ length ys * (length xs + 1) = c.write-locator-rows.auto.rows ∙ length-take-le _ c.args.scratch.now (room _ _ _ c.requires.word.1 c.requires.few.1 c.requires.room) in
+    let rows = c.write_locator_rows.new.rows in
+    let long : length rows ≡ length ys * (length xs + 1) = c.write_locator_rows.auto.rows ∙ length-take-le _ c.args.scratch.now (room _ _ _ c.requires.word.1 c.requires.few.1 c.requires.room) in
     let part = take_at rows (drop (length ys * (length xs + 1)) c.args.scratch.now) (length ys * (length xs + 1)) long in
     record {
       some = c.requires.word.0;
       width = refl;
       long = ap length part ∙ long;
       rows = subst (λ z. All (Symbols F) (rows_from 0 (length xs + 1) (length ys) z)) (sym part)
-          (subst (All (Symbols F)) (sym (ap (λ w. rows_from 0 w (length ys) rows) (omega (arith, c.requires.few.0)) ∙ c.write-locator-rows.ensures)) (rows_of_symbols F (locator_row (numbers F) c.args.t (length xs - c.args.t)) (locator_row_symbols laws c.args.t (length xs - c.args.t)) (points (length ys)) ys (points_below F.q 0 (length ys) (omega (arith, c.requires.word.2))) c.requires.symbols));
+          (subst (All (Symbols F)) (sym (ap (λ w. rows_from 0 w (length ys) rows) (omega (arith, c.requires.few.0)) ∙ c.write_locator_rows.ensures)) (rows_of_symbols F (locator_row (numbers F) c.args.t (length xs - c.args.t)) (locator_row_symbols laws c.args.t (length xs - c.args.t)) (points (length ys)) ys (points_below F.q 0 (length ys) (omega (arith, c.requires.word.2))) c.requires.symbols));
       unknowns = c.requires.unknowns;
     }
 
@@ -60,7 +60,7 @@ returns g c =
     let F = g.F.Field.meaning c.args.f.now in
     let xs = c.args.xs.now in
     let ys = c.args.ys.now in
-    let rows = c.write-locator-rows.new.rows in
-    let long : length rows ≡ length ys * (length xs + 1) = c.write-locator-rows.auto.rows ∙ length-take-le _ c.args.scratch.now (room _ _ _ c.requires.word.1 c.requires.few.1 c.requires.room) in
+    let rows = c.write_locator_rows.new.rows in
+    let long : length rows ≡ length ys * (length xs + 1) = c.write_locator_rows.auto.rows ∙ length-take-le _ c.args.scratch.now (room _ _ _ c.requires.word.1 c.requires.few.1 c.requires.room) in
     let part = take_at rows (drop (length ys * (length xs + 1)) c.args.scratch.now) (length ys * (length xs + 1)) long in
-    subst (λ z. Outcome F z (length xs) c.solve.result c.solve.new.xs) (ap (rows_from 0 (length xs + 1) (length ys)) part ∙ ap (λ w. rows_from 0 w (length ys) rows) (omega (arith, c.requires.few.0)) ∙ c.write-locator-rows.ensures) c.solve.ensures
+    subst (λ z. Outcome F z (length xs) c.solve.result c.solve.new.xs) (ap (rows_from 0 (length xs + 1) (length ys)) part ∙ ap (λ w. rows_from 0 w (length ys) rows) (omega (arith, c.requires.few.0)) ∙ c.write_locator_rows.ensures) c.solve.ensures

@@ -5,21 +5,21 @@ use Rattle.reed_solomon.specs.Rows.{Outcome}
 use Rattle.reed_solomon.proofs.Rowwise.{first_fits, rest_long, split_rows}
 use Rattle.reed_solomon.proofs.equations.solve.Goals as goal
 
-pub split-at-mut-first-requires : goal.split-at-mut-first-requires
-split-at-mut-first-requires g c = first_fits c.args.count c.args.w _ (λ e. omega (arith, c.requires.some)) c.requires.long
+pub split_at_mut-first-requires : goal.split_at_mut-first-requires
+split_at_mut-first-requires g c = first_fits c.args.count c.args.w _ (λ e. omega (arith, c.requires.some)) c.requires.long
 
-pub solve-from-requires : goal.solve-from-requires
-solve-from-requires g c =
+pub solve_from-requires : goal.solve_from-requires
+solve_from-requires g c =
     let F = g.F.Field.meaning c.args.f.now in
-    let parts = c.split-at-mut-first.ensures in
-    let first = c.split-at-mut-first.result.0.now in
-    let others = c.split-at-mut-first.result.1.now in
+    let parts = c.split_at_mut-first.ensures in
+    let first = c.split_at_mut-first.result.0.now in
+    let others = c.split_at_mut-first.result.1.now in
     let rows = c.args.rows.now in
     let some : c.args.count ≡ 0 → ⊥ = λ e. omega (arith, c.requires.some) in
-    let good = subst (All (Symbols F)) (split_rows c.args.w c.args.count rows first others some parts.value parts.front-len) c.requires.rows in
+    let good = subst (All (Symbols F)) (split_rows c.args.w c.args.count rows first others some parts.value parts.front_len) c.requires.rows in
     record {
-      width = parts.front-len ∙ omega (arith, c.requires.width);
-      long = (let e : length others ≡ length rows - c.args.w = omega (arith, parts.back_len) in e ∙ rest_long c.args.count c.args.w (length rows) some c.requires.long ∙ ap (λ k. (c.args.count - 1) * k) (sym parts.front-len));
+      width = parts.front_len ∙ omega (arith, c.requires.width);
+      long = (let e : length others ≡ length rows - c.args.w = omega (arith, parts.back_len) in e ∙ rest_long c.args.count c.args.w (length rows) some c.requires.long ∙ ap (λ k. (c.args.count - 1) * k) (sym parts.front_len));
       row = good.0;
       rows = good.1;
       unknowns = c.requires.unknowns;
@@ -28,7 +28,7 @@ solve-from-requires g c =
 pub returns : goal.returns
 returns g c =
     let F = g.F.Field.meaning c.args.f.now in
-    let parts = c.split-at-mut-first.ensures in
-    let first = c.split-at-mut-first.result.0.now in
-    let others = c.split-at-mut-first.result.1.now in
-    subst (λ z. Outcome F z (length c.args.xs.now) c.solve-from.result c.solve-from.new.xs) (sym (split_rows c.args.w c.args.count c.args.rows.now first others (λ e. omega (arith, c.requires.some)) parts.value parts.front-len)) c.solve-from.ensures
+    let parts = c.split_at_mut-first.ensures in
+    let first = c.split_at_mut-first.result.0.now in
+    let others = c.split_at_mut-first.result.1.now in
+    subst (λ z. Outcome F z (length c.args.xs.now) c.solve_from.result c.solve_from.new.xs) (sym (split_rows c.args.w c.args.count c.args.rows.now first others (λ e. omega (arith, c.requires.some)) parts.value parts.front_len)) c.solve_from.ensures

@@ -8,6 +8,6 @@ returns g c =
     let row = c.args.row.now in
     let t = c.args.t in
     let n = c.args.n in
-    let a = c.write-powers-top.new.out in
+    let a = c.write_powers-top.new.out in
     let fits : t ≤ length row = omega (arith, c.requires.long) in
-    locator_row_is (g.met.F.Field.lawful c.args.f.now) row a c.write-powers.new.out t n c.args.x c.args.y _ _ _ c.write-powers-top.result c.negate-2.result c.requires.point c.requires.symbol c.requires.long (length-take-le t row fits) (middle_long row a t n c.requires.long (c.write-powers-top.auto.out ∙ length-take-le t row fits)) c.write-powers-top.ensures.written c.write-powers-top.ensures.next c.negate.ensures.value c.write-powers.ensures.written c.negate-2.ensures.value
+    locator_row_is (g.met.F.Field.lawful c.args.f.now) row a c.write_powers.new.out t n c.args.x c.args.y _ _ _ c.write_powers-top.result c.negate-2.result c.requires.point c.requires.symbol c.requires.long (length-take-le t row fits) (middle_long row a t n c.requires.long (c.write_powers-top.auto.out ∙ length-take-le t row fits)) c.write_powers-top.ensures.written c.write_powers-top.ensures.next c.negate.ensures.value c.write_powers.ensures.written c.negate-2.ensures.value

@@ -6,31 +6,31 @@ use Rattle.reed_solomon.proofs.solver.+bring.Goals as goal
 pub bounds-others-c : goal.bounds-others-c
 bounds-others-c t c = omega (arith, c.requires.column, first_fits _ _ _ c.if-count-eq0.false c.requires.long)
 
-pub slice-bounds-swap-with-slice-end : goal.slice-bounds-swap-with-slice-end
-slice-bounds-swap-with-slice-end t c = first_fits _ _ _ c.if-count-eq0.false c.requires.long
+pub slice_bounds-swap_with_slice-end : goal.slice_bounds-swap_with_slice-end
+slice_bounds-swap_with_slice-end t c = first_fits _ _ _ c.if-count-eq0.false c.requires.long
 
-pub slice-bounds-swap-with-slice-end-then-others-c-ne0 : goal.slice-bounds-swap-with-slice-end-then-others-c-ne0
-slice-bounds-swap-with-slice-end-then-others-c-ne0 t c = sym (length-take-le _ c.args.others.now (first_fits _ _ _ c.if-count-eq0.false c.requires.long))
+pub slice_bounds-swap_with_slice-end-then-others-c-ne0 : goal.slice_bounds-swap_with_slice-end-then-others-c-ne0
+slice_bounds-swap_with_slice-end-then-others-c-ne0 t c = sym (length-take-le _ c.args.others.now (first_fits _ _ _ c.if-count-eq0.false c.requires.long))
 
-pub swap-with-slice-requires : goal.swap-with-slice-requires
-swap-with-slice-requires t c = sym (length-take-le _ c.args.others.now (first_fits _ _ _ c.if-count-eq0.false c.requires.long))
+pub swap_with_slice-requires : goal.swap_with_slice-requires
+swap_with_slice-requires t c = sym (length-take-le _ c.args.others.now (first_fits _ _ _ c.if-count-eq0.false c.requires.long))
 
 pub returns-then-others-c-ne0 : goal.returns-then-others-c-ne0
 returns-then-others-c-ne0 t c =
     let first = c.args.first.now in
     let others = c.args.others.now in
-    let swap = c.swap-with-slice in
+    let swap = c.swap_with_slice in
     record {
-      rows = exchanged_here first others swap.new.self swap.new.other c.args.count c.args.c c.if-count-eq0.false swap.ensures.after swap.ensures.other_After;
-      found = λ _. found_here first others swap.new.self swap.new.other c.args.count c.args.c c.if-count-eq0.false swap.ensures.after swap.ensures.other_After c.requires.column c.if-others-c-ne0.true;
+      rows = exchanged_here first others swap.new.self swap.new.other c.args.count c.args.c c.if-count-eq0.false swap.ensures.after swap.ensures.other_after;
+      found = λ _. found_here first others swap.new.self swap.new.other c.args.count c.args.c c.if-count-eq0.false swap.ensures.after swap.ensures.other_after c.requires.column c.if-others-c-ne0.true;
       missing = λ e. absurd (let z : ◌≡◌ {A = Prim.Native.Nat.ℕ} 0 1 = cc in omega arith);
     }
 
-pub slice-bounds-bring-count : goal.slice-bounds-bring-count
-slice-bounds-bring-count t c = first_fits _ _ _ c.if-count-eq0.false c.requires.long
+pub slice_bounds-bring-count : goal.slice_bounds-bring-count
+slice_bounds-bring-count t c = first_fits _ _ _ c.if-count-eq0.false c.requires.long
 
-pub slice-bounds-bring-start : goal.slice-bounds-bring-start
-slice-bounds-bring-start t c = first_fits _ _ _ c.if-count-eq0.false c.requires.long
+pub slice_bounds-bring-start : goal.slice_bounds-bring-start
+slice_bounds-bring-start t c = first_fits _ _ _ c.if-count-eq0.false c.requires.long
 
 pub returns : goal.returns
 returns t c =

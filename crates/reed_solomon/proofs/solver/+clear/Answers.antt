@@ -5,14 +5,14 @@ use Rattle.algebra.specs.Systems.{cleared}
 use Rattle.reed_solomon.proofs.Rowwise.{first_fits, written_fits, each_row, rest_length, rest_all, first_all}
 use Rattle.reed_solomon.proofs.solver.+clear.Goals as goal
 
-pub slice-bounds-clear-row-end : goal.slice-bounds-clear-row-end
-slice-bounds-clear-row-end g t c = first_fits _ _ _ c.if-count-eq0.false c.requires.long
+pub slice_bounds-clear_row-end : goal.slice_bounds-clear_row-end
+slice_bounds-clear_row-end g t c = first_fits _ _ _ c.if-count-eq0.false c.requires.long
 
-pub slice-bounds-clear-row-end-2 : goal.slice-bounds-clear-row-end-2
-slice-bounds-clear-row-end-2 g t c = sym (length-take-le _ c.args.rows.now (first_fits _ _ _ c.if-count-eq0.false c.requires.long))
+pub slice_bounds-clear_row-end-2 : goal.slice_bounds-clear_row-end-2
+slice_bounds-clear_row-end-2 g t c = sym (length-take-le _ c.args.rows.now (first_fits _ _ _ c.if-count-eq0.false c.requires.long))
 
-pub clear-row-requires : goal.clear-row-requires
-clear-row-requires g t c = record {
+pub clear_row-requires : goal.clear_row-requires
+clear_row-requires g t c = record {
   column = c.requires.column;
   long = length-take-le _ c.args.rows.now (first_fits _ _ _ c.if-count-eq0.false c.requires.long);
   inverse = c.requires.inverse;
@@ -20,30 +20,30 @@ clear-row-requires g t c = record {
   row = first_all (Symbols (g.F.Field.meaning c.args.f.now)) c.args.c _ c.args.count c.args.rows.now c.if-count-eq0.false c.requires.rows;
 }
 
-pub slice-bounds-clear-count : goal.slice-bounds-clear-count
-slice-bounds-clear-count g t c = let rows = c.args.rows.now in written_fits c.clear-row.new.row _ _ (c.clear-row.auto.row ∙ length-take-le _ rows (first_fits _ _ _ c.if-count-eq0.false c.requires.long))
+pub slice_bounds-clear-count : goal.slice_bounds-clear-count
+slice_bounds-clear-count g t c = let rows = c.args.rows.now in written_fits c.clear_row.new.row _ _ (c.clear_row.auto.row ∙ length-take-le _ rows (first_fits _ _ _ c.if-count-eq0.false c.requires.long))
 
-pub slice-bounds-clear-start : goal.slice-bounds-clear-start
-slice-bounds-clear-start g t c = let rows = c.args.rows.now in written_fits c.clear-row.new.row _ _ (c.clear-row.auto.row ∙ length-take-le _ rows (first_fits _ _ _ c.if-count-eq0.false c.requires.long))
+pub slice_bounds-clear-start : goal.slice_bounds-clear-start
+slice_bounds-clear-start g t c = let rows = c.args.rows.now in written_fits c.clear_row.new.row _ _ (c.clear_row.auto.row ∙ length-take-le _ rows (first_fits _ _ _ c.if-count-eq0.false c.requires.long))
 
 pub clear-requires : goal.clear-requires
 clear-requires g t c κs within =
     let F = g.F.Field.meaning c.args.f.now in
     let pivot = c.args.pivot.now in
     let rows = c.args.rows.now in
-    let long : length c.clear-row.new.row ≡ length pivot = c.clear-row.auto.row ∙ length-take-le _ rows (first_fits _ _ _ c.if-count-eq0.false c.requires.long) in (
+    let long : length c.clear_row.new.row ≡ length pivot = c.clear_row.auto.row ∙ length-take-le _ rows (first_fits _ _ _ c.if-count-eq0.false c.requires.long) in (
       omega (arith, c.decreases, c.if-count-eq0.false),
       (
         within,
         (
           c.requires.column,
           (
-            rest_length (λ r. r) c.args.c (length pivot) c.args.count _ rows c.clear-row.new.row rows c.if-count-eq0.false c.requires.long long (omega arith),
+            rest_length (λ r. r) c.args.c (length pivot) c.args.count _ rows c.clear_row.new.row rows c.if-count-eq0.false c.requires.long long (omega arith),
             (
               c.requires.inverse,
               (
                 c.requires.pivot,
-                rest_all (λ r. r) c.args.c (length pivot) c.args.count _ rows c.clear-row.new.row rows c.if-count-eq0.false c.requires.long long (omega arith) (Symbols F) c.requires.rows,
+                rest_all (λ r. r) c.args.c (length pivot) c.args.count _ rows c.clear_row.new.row rows c.if-count-eq0.false c.requires.long long (omega arith) (Symbols F) c.requires.rows,
               ),
             ),
           ),
@@ -56,5 +56,5 @@ returns g t c =
     let F = g.F.Field.meaning c.args.f.now in
     let pivot = c.args.pivot.now in
     let rows = c.args.rows.now in
-    let long : length c.clear-row.new.row ≡ length pivot = c.clear-row.auto.row ∙ length-take-le _ rows (first_fits _ _ _ c.if-count-eq0.false c.requires.long) in
-    each_row (cleared (numbers F) (drop c.args.c pivot)) c.args.c (length pivot) c.args.count _ rows c.clear-row.new.row c.clear.new.rows c.if-count-eq0.false c.requires.long long (omega arith) c.clear-row.ensures c.clear.ensures
+    let long : length c.clear_row.new.row ≡ length pivot = c.clear_row.auto.row ∙ length-take-le _ rows (first_fits _ _ _ c.if-count-eq0.false c.requires.long) in
+    each_row (cleared (numbers F) (drop c.args.c pivot)) c.args.c (length pivot) c.args.count _ rows c.clear_row.new.row c.clear.new.rows c.if-count-eq0.false c.requires.long long (omega arith) c.clear_row.ensures c.clear.ensures

@@ -7,7 +7,7 @@ use Rattle.reed_solomon.proofs.Rowwise.{first_fits, rest_long, length_rest}
 use Rattle.reed_solomon.proofs.Solving.{drop_symbol}
 use Rattle.reed_solomon.proofs.Descent.{rest_symbols, row_symbols, first_symbols, others_symbols, next_symbols, no_unknowns, free_column, left_good, no_solution, rest_found, rest_free, solution}
 use Rattle.reed_solomon.proofs.solver.+solve_from.Goals as goal
-use Rattle.reed_solomon.proofs.solver.+solve_from.Goals.{then-count-gt0+else-not-solve-from, else-count-gt0}
+use Rattle.reed_solomon.proofs.solver.+solve_from.Goals.{then-count-gt0+else-not-solve_from, else-count-gt0}
 
 pub returns-then-xs-eq0 : goal.returns-then-xs-eq0
 returns-then-xs-eq0 g t c =
@@ -16,8 +16,8 @@ returns-then-xs-eq0 g t c =
     let b = c.bring-found in
     no_unknowns F laws c.args.c _ _ c.args.count c.args.first.now c.args.others.now b.new.first b.new.others b.auto.first b.ensures.rows c.requires.row c.requires.rows c.args.xs.now b.result c.if-xs-eq0.true c.requires.unknowns b.ensures.missing b.ensures.found
 
-pub solve-from-requires : goal.solve-from-requires
-solve-from-requires g t c κs within =
+pub solve_from-requires : goal.solve_from-requires
+solve_from-requires g t c κs within =
     let F = g.F.Field.meaning c.args.f.now in
     let laws = g.met.F.Field.lawful c.args.f.now in
     let b = c.bring-found in
@@ -47,7 +47,7 @@ returns-then-not-found g t c =
     let F = g.F.Field.meaning c.args.f.now in
     let laws = g.met.F.Field.lawful c.args.f.now in
     let b = c.bring-found in
-    free_column F laws c.args.c _ _ c.args.count c.args.first.now c.args.others.now b.new.first b.new.others b.auto.first c.if-not-found.ensures.rows c.requires.row c.requires.rows c.args.xs.now c.solve-from.new.xs c.solve-from.result c.if-xs-eq0.false c.requires.unknowns (c.if-not-found.ensures.missing refl) c.solve-from.ensures
+    free_column F laws c.args.c _ _ c.args.count c.args.first.now c.args.others.now b.new.first b.new.others b.auto.first c.if-not-found.ensures.rows c.requires.row c.requires.rows c.args.xs.now c.solve_from.new.xs c.solve_from.result c.if-xs-eq0.false c.requires.unknowns (c.if-not-found.ensures.missing refl) c.solve_from.ensures
 
 pub clear-requires : goal.clear-requires
 clear-requires g t c =
@@ -65,50 +65,50 @@ clear-requires g t c =
       rows = others_symbols F laws c.args.c _ _ c.args.count c.args.first.now c.args.others.now first' b.new.others b.auto.first c.if-not-found.ensures.rows c.requires.row c.requires.rows;
     }
 
-pub split-at-mut-row-requires : goal.split-at-mut-row-requires
-split-at-mut-row-requires g t c =
+pub split_at_mut-row-requires : goal.split_at_mut-row-requires
+split_at_mut-row-requires g t c =
     let b = c.bring-found in
     first_fits c.args.count (length b.new.first) (length c.clear.new.rows) (λ e. omega (arith, c.if-count-gt0.true)) (c.clear.auto.rows ∙ b.auto.others ∙ c.requires.long ∙ ap (λ k. c.args.count * k) (sym b.auto.first))
 
-pub solve-from-requires-then-count-gt0 : goal.solve-from-requires-then-count-gt0
-solve-from-requires-then-count-gt0 g t c κs within =
+pub solve_from-requires-then-count-gt0 : goal.solve_from-requires-then-count-gt0
+solve_from-requires-then-count-gt0 g t c κs within =
     let F = g.F.Field.meaning c.args.f.now in
     let laws = g.met.F.Field.lawful c.args.f.now in
     let b = c.bring-found in
     let first' = b.new.first in
     let xs = c.args.xs.now in
-    let row = c.split-at-mut-row.result.0.now in
-    let rest' = c.split-at-mut-row.result.1.now in
-    let parts = c.split-at-mut-row.ensures in
+    let row = c.split_at_mut-row.result.0.now in
+    let rest' = c.split_at_mut-row.result.1.now in
+    let parts = c.split_at_mut-row.ensures in
     let l = length_rest xs in
     let some : c.args.count ≡ 0 → ⊥ = λ e. omega (arith, c.if-count-gt0.true) in
     let long : length c.clear.new.rows ≡ c.args.count * length first' = c.clear.auto.rows ∙ b.auto.others ∙ c.requires.long ∙ ap (λ k. c.args.count * k) (sym b.auto.first) in
-    let good = left_good F laws c.args.c _ _ c.args.count c.args.first.now c.args.others.now first' b.new.others b.auto.first c.if-not-found.ensures.rows c.requires.row c.requires.rows c.clear.new.rows (c.if-not-found.ensures.found refl) c.clear.ensures row rest' (length row) some parts.value parts.front-len parts.front-len in (
+    let good = left_good F laws c.args.c _ _ c.args.count c.args.first.now c.args.others.now first' b.new.others b.auto.first c.if-not-found.ensures.rows c.requires.row c.requires.rows c.clear.new.rows (c.if-not-found.ensures.found refl) c.clear.ensures row rest' (length row) some parts.value parts.front_len parts.front_len in (
       (let less : length (take (length xs - 1) (drop 1 xs)) < t = omega (arith, l, c.decreases, c.if-xs-eq0.false) in less),
       (
         within,
         (
-          parts.front-len ∙ omega (arith, l, b.auto.first, c.requires.width, c.if-xs-eq0.false),
+          parts.front_len ∙ omega (arith, l, b.auto.first, c.requires.width, c.if-xs-eq0.false),
           (
-            (let e : length rest' ≡ length c.clear.new.rows - length first' = omega (arith, parts.back_len) in e ∙ rest_long c.args.count (length first') (length c.clear.new.rows) some long ∙ ap (λ k. (c.args.count - 1) * k) (sym parts.front-len)),
+            (let e : length rest' ≡ length c.clear.new.rows - length first' = omega (arith, parts.back_len) in e ∙ rest_long c.args.count (length first') (length c.clear.new.rows) some long ∙ ap (λ k. (c.args.count - 1) * k) (sym parts.front_len)),
             (good.0, (good.1, rest_symbols F laws xs c.requires.unknowns)),
           ),
         ),
       ),
     )
 
-pub returns-then-not-solve-from : goal.returns-then-not-solve-from
-returns-then-not-solve-from g t c =
+pub returns-then-not-solve_from : goal.returns-then-not-solve_from
+returns-then-not-solve_from g t c =
     let F = g.F.Field.meaning c.args.f.now in
     let laws = g.met.F.Field.lawful c.args.f.now in
     let b = c.bring-found in
     let first' = b.new.first in
     let xs = c.args.xs.now in
-    let parts = c.split-at-mut-row.ensures in
-    no_solution F laws c.args.c _ _ c.args.count c.args.first.now c.args.others.now first' b.new.others b.auto.first c.if-not-found.ensures.rows c.requires.row c.requires.rows c.clear.new.rows (c.if-not-found.ensures.found refl) c.clear.ensures xs c.solve-from-then-count-gt0.new.xs c.split-at-mut-row.result.0.now c.split-at-mut-row.result.1.now _ c.if-xs-eq0.false (λ e. omega (arith, c.if-count-gt0.true)) parts.value parts.front-len parts.front-len c.if-not-solve-from.ensures
+    let parts = c.split_at_mut-row.ensures in
+    no_solution F laws c.args.c _ _ c.args.count c.args.first.now c.args.others.now first' b.new.others b.auto.first c.if-not-found.ensures.rows c.requires.row c.requires.rows c.clear.new.rows (c.if-not-found.ensures.found refl) c.clear.ensures xs c.solve_from-then-count-gt0.new.xs c.split_at_mut-row.result.0.now c.split_at_mut-row.result.1.now _ c.if-xs-eq0.false (λ e. omega (arith, c.if-count-gt0.true)) parts.value parts.front_len parts.front_len c.if-not-solve_from.ensures
 
-pub pivot-unknown-requires : goal.pivot-unknown-requires
-pivot-unknown-requires g t c =
+pub pivot_unknown-requires : goal.pivot_unknown-requires
+pivot_unknown-requires g t c =
     let F = g.F.Field.meaning c.args.f.now in
     let laws = g.met.F.Field.lawful c.args.f.now in
     let b = c.bring-found in
@@ -126,7 +126,7 @@ pivot-unknown-requires g t c =
       row = subst (Symbols F) (sym (take_rest first' (c.args.c + 1))) (row_symbols F laws c.args.c first' sf);
       unknowns = subst (Symbols F) (sym (take_rest xs' 1))
           (elim c.if-count-gt0.branch [
-            | then-count-gt0+else-not-solve-from w ↦ (rest_found F laws c.args.c _ _ c.args.count c.args.first.now c.args.others.now first' b.new.others b.auto.first c.if-not-found.ensures.rows c.requires.row c.requires.rows c.clear.new.rows (c.if-not-found.ensures.found refl) c.clear.ensures xs xs' w.solve-from-then-count-gt0.new.xs w.split-at-mut-row.result.0.now w.split-at-mut-row.result.1.now _ 0 c.if-xs-eq0.false (λ e. omega (arith, w.if-count-gt0.true)) w.split-at-mut-row.ensures.value w.split-at-mut-row.ensures.front-len w.split-at-mut-row.ensures.front-len w.xs-is w.if-not-solve-from.ensures).0
+            | then-count-gt0+else-not-solve_from w ↦ (rest_found F laws c.args.c _ _ c.args.count c.args.first.now c.args.others.now first' b.new.others b.auto.first c.if-not-found.ensures.rows c.requires.row c.requires.rows c.clear.new.rows (c.if-not-found.ensures.found refl) c.clear.ensures xs xs' w.solve_from-then-count-gt0.new.xs w.split_at_mut-row.result.0.now w.split_at_mut-row.result.1.now _ 0 c.if-xs-eq0.false (λ e. omega (arith, w.if-count-gt0.true)) w.split_at_mut-row.ensures.value w.split_at_mut-row.ensures.front_len w.split_at_mut-row.ensures.front_len w.xs-is w.if-not-solve_from.ensures).0
             | else-count-gt0 w ↦ (rest_free F laws c.args.c _ _ c.args.count c.args.first.now c.args.others.now first' b.new.others b.auto.first c.if-not-found.ensures.rows c.requires.row c.requires.rows c.clear.new.rows (c.if-not-found.ensures.found refl) c.clear.ensures xs xs' (omega (arith, w.if-count-gt0.false)) c.requires.unknowns w.xs-is).0
           ]);
     }
@@ -142,8 +142,8 @@ returns g t c =
     let column : c.args.c < length first' = omega (arith, b.auto.first, c.requires.width) in
     let sf = first_symbols F laws c.args.c _ _ c.args.count c.args.first.now c.args.others.now first' b.new.others b.auto.first c.if-not-found.ensures.rows c.requires.row c.requires.rows in
     let inverse = c.invert-inverse.ensures.value ∙ inverse_or_0_is F (get_or first' c.args.c 0) (drop_symbol F first' c.args.c column sf) (c.if-not-found.ensures.found refl) in
-    solution F laws c.args.c _ _ c.args.count c.args.first.now c.args.others.now first' b.new.others b.auto.first c.if-not-found.ensures.rows c.requires.row c.requires.rows c.clear.new.rows (c.if-not-found.ensures.found refl) c.clear.ensures xs' (length xs) c.invert-inverse.result c.pivot-unknown.result (omega (arith, c.if-xs-eq0.false, c.if-count-gt0.auto.xs))
+    solution F laws c.args.c _ _ c.args.count c.args.first.now c.args.others.now first' b.new.others b.auto.first c.if-not-found.ensures.rows c.requires.row c.requires.rows c.clear.new.rows (c.if-not-found.ensures.found refl) c.clear.ensures xs' (length xs) c.invert-inverse.result c.pivot_unknown.result (omega (arith, c.if-xs-eq0.false, c.if-count-gt0.auto.xs))
     (elim c.if-count-gt0.branch [
-      | then-count-gt0+else-not-solve-from w ↦ rest_found F laws c.args.c _ _ c.args.count c.args.first.now c.args.others.now first' b.new.others b.auto.first c.if-not-found.ensures.rows c.requires.row c.requires.rows c.clear.new.rows (c.if-not-found.ensures.found refl) c.clear.ensures xs xs' w.solve-from-then-count-gt0.new.xs w.split-at-mut-row.result.0.now w.split-at-mut-row.result.1.now _ 0 c.if-xs-eq0.false (λ e. omega (arith, w.if-count-gt0.true)) w.split-at-mut-row.ensures.value w.split-at-mut-row.ensures.front-len w.split-at-mut-row.ensures.front-len w.xs-is w.if-not-solve-from.ensures
+      | then-count-gt0+else-not-solve_from w ↦ rest_found F laws c.args.c _ _ c.args.count c.args.first.now c.args.others.now first' b.new.others b.auto.first c.if-not-found.ensures.rows c.requires.row c.requires.rows c.clear.new.rows (c.if-not-found.ensures.found refl) c.clear.ensures xs xs' w.solve_from-then-count-gt0.new.xs w.split_at_mut-row.result.0.now w.split_at_mut-row.result.1.now _ 0 c.if-xs-eq0.false (λ e. omega (arith, w.if-count-gt0.true)) w.split_at_mut-row.ensures.value w.split_at_mut-row.ensures.front_len w.split_at_mut-row.ensures.front_len w.xs-is w.if-not-solve_from.ensures
       | else-count-gt0 w ↦ rest_free F laws c.args.c _ _ c.args.count c.args.first.now c.args.others.now first' b.new.others b.auto.first c.if-not-found.ensures.rows c.requires.row c.requires.rows c.clear.new.rows (c.if-not-found.ensures.found refl) c.clear.ensures xs xs' (omega (arith, w.if-count-gt0.false)) c.requires.unknowns w.xs-is
-    ]) inverse c.pivot-unknown.ensures
+    ]) inverse c.pivot_unknown.ensures

@@ -5,8 +5,8 @@ use Rattle.reed_solomon.proofs.Solving.{factor_is, cleared_row, cleared_already,
 use Rattle.reed_solomon.specs.Words.{symbols_all}
 use Rattle.reed_solomon.proofs.solver.clear_row.Goals as goal
 
-pub add-multiple-requires : goal.add-multiple-requires
-add-multiple-requires g c =
+pub add_multiple-requires : goal.add_multiple-requires
+add_multiple-requires g c =
     let F = g.F.Field.meaning c.args.f.now in
     let at = c.args.c in
     let row = c.args.row.now in
@@ -29,7 +29,7 @@ returns g c =
     let within : at < length row = omega (arith, c.requires.column, c.requires.long) in
     let laws = g.met.F.Field.lawful c.args.f.now in
     let factor = factor_is laws (get_or row at 0) c.args.inverse (get_or pivot at 0) _ _ (drop_symbol F row at within c.requires.row) c.requires.inverse c.multiply.ensures c.negate-factor.ensures.value in
-    cleared_row laws pivot row c.add-multiple.new.out at _ factor.0 c.requires.long (omega arith) c.add-multiple.ensures
+    cleared_row laws pivot row c.add_multiple.new.out at _ factor.0 c.requires.long (omega arith) c.add_multiple.ensures
 
 pub returns-then-row-c-eq0 : goal.returns-then-row-c-eq0
 returns-then-row-c-eq0 g c =

@@ -8,7 +8,7 @@ pub returns-in-default : goal.returns-in-default
 returns-in-default c = empty_line c.args.words.now (search rules)
 
 pub returns-in-Ok : goal.returns-in-Ok
-returns-in-Ok c = ap told c.in-Ok.ensures ∙ command_line c.args.words.now _ (search rules) c.if-is-comment.ensures
+returns-in-Ok c = ap told c.in-Ok.ensures ∙ command_line c.args.words.now _ (search rules) c.if-is_comment.ensures
 
 pub returns-in-NotUnderstood : goal.returns-in-NotUnderstood
-returns-in-NotUnderstood c = not_read c.in-Err.unread _ c.in-NotUnderstood.is c.in-Err.ensures ∙ command_line c.args.words.now _ (search rules) c.if-is-comment.ensures
+returns-in-NotUnderstood c = not_read c.in-Err.unread _ c.in-NotUnderstood.is c.in-Err.ensures ∙ command_line c.args.words.now _ (search rules) c.if-is_comment.ensures

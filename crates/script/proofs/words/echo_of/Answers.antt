@@ -10,7 +10,7 @@ pub loop-word-init : goal.loop-word-init
 loop-word-init c = c.in_ok-echo.ensures.ok
 
 pub loop-word-preserved : goal.loop-word-preserved
-loop-word-preserved c = word_more c.deref-word-items.result.now c.loop-word.word-index _ c.loop-word-test.true c.loop-word.invariant c.in_ok-push-word.ensures
+loop-word-preserved c = word_more c.deref-word-items.result.now c.loop-word.word-index _ c.loop-word-test.true c.loop-word.invariant c.in_ok-push_word.ensures
 
 pub returns : goal.returns
 returns c =

@@ -5,7 +5,7 @@ use Rattle.std.proofs.lemmas.Slice.{pushed}
 use Rattle.script.specs.Words.{texts}
 use Rattle.script.proofs.Cuts.{dark_more, gap_more, word_more, no_last, last_word, carried}
 use Rattle.script.proofs.words.words_of.Goals as goal
-use Rattle.script.proofs.words.words_of.Goals.{then-is-white, else-is-white, then-start-i+in_ok-push, else-start-i, then-start-line+in_ok-push-2, else-start-line}
+use Rattle.script.proofs.words.words_of.Goals.{then-is_white, else-is_white, then-start-i+in_ok-push, else-start-i, then-start-line+in_ok-push-2, else-start-line}
 
 pub loop-i-preserved : goal.loop-i-preserved
 loop-i-preserved c =
@@ -14,9 +14,9 @@ loop-i-preserved c =
     let start = c.loop-i.start in
     let i = c.loop-i.i in
     let sofar = c.loop-i.invariant.1 in
-    elim c.if-is-white.branch [
-      | then-is-white w ↦
-          let white = sym w.if-is-white.ensures in
+    elim c.if-is_white.branch [
+      | then-is_white w ↦
+          let white = sym w.if-is_white.ensures in
           elim w.if-start-i.branch [
             | then-start-i+in_ok-push p ↦
                 carried line (i + 1)
@@ -27,9 +27,9 @@ loop-i-preserved c =
                 carried line (i + 1) (ap vec_items (w.found-is ∙ p.found-is)) w.start-is
                 (omega arith, gap_more line found start i (omega arith) c.loop-i.invariant.0 sofar white p.if-start-i.false)
           ]
-      | else-is-white w ↦
+      | else-is_white w ↦
           carried line (i + 1) (ap vec_items w.found-is) w.start-is
-          (omega arith, dark_more line found start i (omega arith) c.loop-i.invariant.0 sofar (sym w.if-is-white.ensures))
+          (omega arith, dark_more line found start i (omega arith) c.loop-i.invariant.0 sofar (sym w.if-is_white.ensures))
     ]
 
 pub returns : goal.returns

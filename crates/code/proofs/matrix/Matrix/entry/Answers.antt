@@ -9,7 +9,7 @@ pub returns-then-i-self : goal.returns-then-i-self
 returns-then-i-self c =
     let a = c.args.self.now in
     let tall : a.height ≤ length a.rows = omega (arith, a.tall, a.low) in
-    let at = ap₂ (λ i j. get_or (get_or (held a) i []) j 0) c.saturating-sub-i.ensures c.saturating-sub-j.ensures in
+    let at = ap₂ (λ i j. get_or (get_or (held a) i []) j 0) c.saturating_sub-i.ensures c.saturating_sub-j.ensures in
     elim c.then-i-self.branch [
       | then-i-self-via-then-i-self w ↦ sym (no_row a.rows a.height a.width tall _ _ w.if-i-self.true) ∙ at
       | then-i-self-via-else-i-self+then-j-self w ↦ sym (no_column a.rows a.height a.width tall _ _ w.if-i-self.false w.if-j-self.true) ∙ at
@@ -20,4 +20,4 @@ returns c =
     let a = c.args.self.now in
     let tall : a.height ≤ length a.rows = omega (arith, a.tall, a.low) in
     sym (held_entry a.rows a.height a.width tall _ _ c.if-i-self.false c.if-j-self.false)
-    ∙ ap₂ (λ i j. get_or (get_or (held a) i []) j 0) c.saturating-sub-i.ensures c.saturating-sub-j.ensures
+    ∙ ap₂ (λ i j. get_or (get_or (held a) i []) j 0) c.saturating_sub-i.ensures c.saturating_sub-j.ensures

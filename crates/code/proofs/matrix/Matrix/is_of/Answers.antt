@@ -15,19 +15,19 @@ row_read a i q l =
     let all : a.width ≡ a.width - 0 = omega arith in
     ap (symbols q) (held_row a.rows a.height a.width (omega (arith, a.tall, a.low)) i l ∙ ap (λ n. take n (get_or a.rows i [])) all)
 
-pub returns-then-not-are-symbols : goal.returns-then-not-are-symbols
-returns-then-not-are-symbols g c =
+pub returns-then-not-are_symbols : goal.returns-then-not-are_symbols
+returns-then-not-are_symbols g c =
     let a = c.args.self.now in
     let q = (g.F.Field.meaning c.args.f.now).q in
     let here = row_read a c.loop-i.i q c.loop-i-test.true in
-    sym (every_step (symbols q) (held a) c.loop-i.i false (omega (arith, held_rows a, c.loop-i-test.true)) (here ∙ sym c.are-symbols.ensures ∙ c.if-not-are-symbols.true)) ∙ c.loop-i.invariant
+    sym (every_step (symbols q) (held a) c.loop-i.i false (omega (arith, held_rows a, c.loop-i-test.true)) (here ∙ sym c.are_symbols.ensures ∙ c.if-not-are_symbols.true)) ∙ c.loop-i.invariant
 
 pub loop-i-preserved : goal.loop-i-preserved
 loop-i-preserved g c =
     let a = c.args.self.now in
     let q = (g.F.Field.meaning c.args.f.now).q in
     let here = row_read a c.loop-i.i q c.loop-i-test.true in
-    sym (every_step (symbols q) (held a) c.loop-i.i true (omega (arith, held_rows a, c.loop-i-test.true)) (here ∙ sym c.are-symbols.ensures ∙ c.if-not-are-symbols.false)) ∙ c.loop-i.invariant
+    sym (every_step (symbols q) (held a) c.loop-i.i true (omega (arith, held_rows a, c.loop-i-test.true)) (here ∙ sym c.are_symbols.ensures ∙ c.if-not-are_symbols.false)) ∙ c.loop-i.invariant
 
 pub returns : goal.returns
 returns g c =

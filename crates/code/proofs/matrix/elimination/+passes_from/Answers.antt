@@ -7,7 +7,7 @@ use Rattle.code.specs.Held.{held}
 use Rattle.code.proofs.Passing.{passes_held, rows_reduced, test_zero, test_other, every_skip, every_here, free_kept, held_wide, pivot_test}
 use Rattle.code.specs.declared.matrix.Matrix.{Matrix}
 use Rattle.code.proofs.matrix.elimination.+passes_from.Goals as goal
-use Rattle.code.proofs.matrix.elimination.+passes_from.Goals.{then-not-taken-p+else-a-p-eq0+else-not-passes-from, else-not-taken-p}
+use Rattle.code.proofs.matrix.elimination.+passes_from.Goals.{then-not-taken-p+else-a-p-eq0+else-not-passes_from, else-not-taken-p}
 
 tall : (a : Matrix) → a.height ≤ length a.rows
 tall a = omega (arith, a.tall, a.low)
@@ -38,8 +38,8 @@ reduced-requires g t c = record {
   rows = c.requires.rows;
 }
 
-pub passes-from-requires : goal.passes-from-requires
-passes-from-requires g t c κs within =
+pub passes_from-requires : goal.passes_from-requires
+passes_from-requires g t c κs within =
     let a = c.args.a in
     let F = g.F.Field.meaning c.args.f.now in
     let some : 0 < a.height = omega (arith, c.if-a-eq0.false) in
@@ -50,15 +50,15 @@ passes-from-requires g t c κs within =
     = λ j l e. subst (λ w. j < w) (sym c.reduced.ensures.width) (free_kept c.args.taken c.loop-p.p a.width c.requires.long c.requires.free j l e) in
     (less, (within, (subst (λ w. Rows F w (held c.reduced.result)) (sym c.reduced.ensures.width) rows, (free, length-set c.args.taken c.loop-p.p true ∙ c.requires.long))))
 
-pub returns-then-not-passes-from : goal.returns-then-not-passes-from
-returns-then-not-passes-from g t c =
+pub returns-then-not-passes_from : goal.returns-then-not-passes_from
+returns-then-not-passes_from g t c =
     let a = c.args.a in
     let p = c.loop-p.p in
     let F = g.F.Field.meaning c.args.f.now in
     let within : p < length c.args.taken = omega (arith, c.requires.long, c.loop-p-test.true) in
     let free = c.if-not-taken-p.true in
-    let fails = test_other (g.met.F.Field.lawful c.args.f.now) a.rows a.height a.width (tall a) (wide a) (omega (arith, c.if-a-eq0.false)) c.requires.rows c.args.taken p (held c.reduced.result) c.passes-from.result
-    (c.requires.free p c.loop-p-test.true free) c.if-a-p-eq0.false c.reduced.ensures.rows c.passes-from.ensures ∙ c.if-not-passes-from.true in
+    let fails = test_other (g.met.F.Field.lawful c.args.f.now) a.rows a.height a.width (tall a) (wide a) (omega (arith, c.if-a-eq0.false)) c.requires.rows c.args.taken p (held c.reduced.result) c.passes_from.result
+    (c.requires.free p c.loop-p-test.true free) c.if-a-p-eq0.false c.reduced.ensures.rows c.passes_from.ensures ∙ c.if-not-passes_from.true in
     sym (every_here (pivot_test F (take a.width (get_or a.rows 0 [])) (drop 1 (held a)) c.args.taken) c.args.taken p within false free fails) ∙ c.loop-p.invariant
 
 pub loop-p-preserved : goal.loop-p-preserved
@@ -69,10 +69,10 @@ loop-p-preserved g t c =
     let test = pivot_test F (take a.width (get_or a.rows 0 [])) (drop 1 (held a)) c.args.taken in
     let within : p < length c.args.taken = omega (arith, c.requires.long, c.loop-p-test.true) in
     elim c.if-not-taken-p.branch [
-      | then-not-taken-p+else-a-p-eq0+else-not-passes-from w ↦
+      | then-not-taken-p+else-a-p-eq0+else-not-passes_from w ↦
           sym (every_here test c.args.taken p within true w.if-not-taken-p.true
-          (test_other (g.met.F.Field.lawful c.args.f.now) a.rows a.height a.width (tall a) (wide a) (omega (arith, c.if-a-eq0.false)) c.requires.rows c.args.taken p (held w.reduced.result) w.passes-from.result
-          (c.requires.free p c.loop-p-test.true w.if-not-taken-p.true) w.if-a-p-eq0.false w.reduced.ensures.rows w.passes-from.ensures ∙ w.if-not-passes-from.false))
+          (test_other (g.met.F.Field.lawful c.args.f.now) a.rows a.height a.width (tall a) (wide a) (omega (arith, c.if-a-eq0.false)) c.requires.rows c.args.taken p (held w.reduced.result) w.passes_from.result
+          (c.requires.free p c.loop-p-test.true w.if-not-taken-p.true) w.if-a-p-eq0.false w.reduced.ensures.rows w.passes_from.ensures ∙ w.if-not-passes_from.false))
           ∙ c.loop-p.invariant
       | else-not-taken-p w ↦ sym (every_skip test c.args.taken p within w.if-not-taken-p.false) ∙ c.loop-p.invariant
     ]

@@ -6,8 +6,8 @@ use Rattle.code.specs.Held.{held}
 use Rattle.code.proofs.Passing.{pivot_test}
 use Rattle.code.proofs.matrix.elimination.+passes_from.Given as goal
 
-abbrev pub decreases-passes-from : goal.decreases-passes-from
-decreases-passes-from g l = l.a.height
+abbrev pub decreases-passes_from : goal.decreases-passes_from
+decreases-passes_from g l = l.a.height
 
 -- the free columns that are left decide
 abbrev pub invariant-loop-p : goal.invariant-loop-p

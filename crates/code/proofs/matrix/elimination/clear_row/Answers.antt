@@ -15,12 +15,12 @@ returns g c =
     let top = c.args.top in
     let all : w - 0 ≡ w = omega arith in
     let lr : length (take w row) ≡ w = length-take w row ∙ (omega (arith, c.requires.rows_long, c.requires.narrow)) in
-    let lt : length (take w top) ≡ w = length-take w top ∙ (omega (arith, c.requires.tops-long, c.requires.narrow)) in
-    let out = c.add-scaled.new.out in
+    let lt : length (take w top) ≡ w = length-take w top ∙ (omega (arith, c.requires.tops_long, c.requires.narrow)) in
+    let out = c.add_scaled.new.out in
     let is : out ≡ cleared_row F c.args.p (take w top) (take w row)
     = clear_is (g.met.F.Field.lawful c.args.f.now) c.args.p w c.invert.result c.multiply.result c.negate-factor.result top row out c.requires.pivot c.requires.lead c.requires.tops c.requires.rows (lt ∙ sym lr)
     c.invert.ensures.value c.multiply.ensures c.negate-factor.ensures.value
-    (subst (λ n. out ≡ cond (addable F c.negate-factor.result (take n row) (take n top)) (plus_scaled F c.negate-factor.result (take n row) (take n top)) (take n row)) all c.add-scaled.ensures.after) in
+    (subst (λ n. out ≡ cond (addable F c.negate-factor.result (take n row) (take n top)) (plus_scaled F c.negate-factor.result (take n row) (take n top)) (take n row)) all c.add_scaled.ensures.after) in
     let long : length out ≡ w = ap length is ∙ length_added F (take w row) _ ∙ lr in
     record {
       row = take_at out _ w long ∙ is;

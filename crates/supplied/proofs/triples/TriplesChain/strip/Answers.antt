@@ -8,12 +8,12 @@ use Rattle.supplied.specs.Triples.{triples, word}
 use Rattle.supplied.specs.Lawful.{is_chain, one_symbol, message, first_level, only_place}
 use Rattle.supplied.proofs.triples.TriplesChain.strip.Goals as goal
 
-pub returns-in-default : goal.returns-in-default
-returns-in-default c =
+pub returns-in_default : goal.returns-in_default
+returns-in_default c =
     let level = first_level c.args.level c.if-level-ne1.false in
     let b = c.args.block.now in
-    let nothing = message_of_none is_chain c.args.level level b (λ xs hx e. c.in-default.ensures (get_or xs 0 0) (one_symbol xs hx).0 (omega (arith, ap (λ w. distance w b) e ∙ distance_itself eqb eqb_tells b))) in
-    strip_none triples c.args.level b c.args.out.now refl level (record { long = c.if-block-ne3.false; all = subst T c.if-not-are-symbols.ensures tt }) c.if-out-ne1.false nothing
+    let nothing = message_of_none is_chain c.args.level level b (λ xs hx e. c.in_default.ensures (get_or xs 0 0) (one_symbol xs hx).0 (omega (arith, ap (λ w. distance w b) e ∙ distance_itself eqb eqb_tells b))) in
+    strip_none triples c.args.level b c.args.out.now refl level (record { long = c.if-block-ne3.false; all = subst T c.if-not-are_symbols.ensures tt }) c.if-out-ne1.false nothing
 
 pub returns : goal.returns
 returns c =
@@ -24,4 +24,4 @@ returns c =
     let is : word x ≡ b = distance_zero eqb eqb_tells (word x) b (omega (arith, c.in-Some.ensures.1)) in
     let found = message_of_is is_chain c.args.level level b (x ∷ []) (message x c.in-Some.ensures.0) is in
     subst (λ w. Strips triples c.args.level b out (Ok tt) w) (sym (only_place out x c.if-out-ne1.false))
-    (strip_done triples c.args.level b out (x ∷ []) refl level (record { long = c.if-block-ne3.false; all = subst T c.if-not-are-symbols.ensures tt }) c.if-out-ne1.false found)
+    (strip_done triples c.args.level b out (x ∷ []) refl level (record { long = c.if-block-ne3.false; all = subst T c.if-not-are_symbols.ensures tt }) c.if-out-ne1.false found)
