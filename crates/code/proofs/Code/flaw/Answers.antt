@@ -10,7 +10,7 @@ use Rattle.code.proofs.Code.flaw.Goals as goal
 pub is_nonsingular-requires : goal.is_nonsingular-requires
 is_nonsingular-requires g c =
     let a = c.args.self.now.matrix in
-    let q = (g.Over.Field.meaning c.field-f.result.now).q in
+    let q = (g.C.Over.Field.meaning c.field-f.result.now).q in
     (all_pass (symbols q) (λ r. T (symbols q r)) (λ r t. t) (held a) (T_is _ (sym c.if-not-is_of.ensures)), held_columns a)
 
 pub returns-then-not-is_nonsingular : goal.returns-then-not-is_nonsingular
@@ -18,11 +18,11 @@ returns-then-not-is_nonsingular g c =
     let self = c.args.self.now in
     let none = sym c.in_default.ensures in
     sym (flaw_tested (g.C.Chain.meaning self.chain) self.l self.matrix (g.met.C.Chain.lawful self.chain none).s_least (sym c.if-not-has_shape.ensures)
-    (g.Over.Field.meaning c.field-f.result.now) false none c.field-f.ensures (sym c.if-not-is_of.ensures) c.if-not-is_nonsingular.ensures)
+    (g.C.Over.Field.meaning c.field-f.result.now) false none c.field-f.ensures (sym c.if-not-is_of.ensures) c.if-not-is_nonsingular.ensures)
 
 pub returns : goal.returns
 returns g c =
     let self = c.args.self.now in
     let none = sym c.in_default.ensures in
     sym (flaw_tested (g.C.Chain.meaning self.chain) self.l self.matrix (g.met.C.Chain.lawful self.chain none).s_least (sym c.if-not-has_shape.ensures)
-    (g.Over.Field.meaning c.field-f.result.now) true none c.field-f.ensures (sym c.if-not-is_of.ensures) c.if-not-is_nonsingular.ensures)
+    (g.C.Over.Field.meaning c.field-f.result.now) true none c.field-f.ensures (sym c.if-not-is_of.ensures) c.if-not-is_nonsingular.ensures)

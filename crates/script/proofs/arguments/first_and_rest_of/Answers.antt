@@ -8,7 +8,7 @@ use Rattle.script.proofs.arguments.first_and_rest_of.Goals as goal
 
 pub returns-in_err-rest : goal.returns-in_err-rest
 returns-in_err-rest c =
-    let p = err_from_is_err_and c.from-residual-in_err-rest.result c.from-residual-in_err-rest.ensures.1 in
+    let p = err_from_is_err_and c.from_residual-in_err-rest.result c.from_residual-in_err-rest.ensures.1 in
     let some : 0 < length c.args.numbers.now = search rules in
     rw (p.1, p.2)
     (subst (Reads both_view (Err c.in_err-rest.field-0.0)) (sym (split_first c.args.numbers.now some))

@@ -11,10 +11,10 @@ one w = number w.now
 all : List (Bor (List ℕ)) → Option (List ℕ)
 all ws = numbers (texts ws)
 
-pub returns-in-default : goal.returns-in-default
+pub returns-in_default : goal.returns-in_default
 unfolding one all
-returns-in-default c =
-    not_read one all refl (λ _ _. refl) c.args.words.now (vec_items c.loop-word.found) c.loop-word.word-index c.loop-word.invariant _ c.loop-word-test.true c.in-default.ensures
+returns-in_default c =
+    not_read one all refl (λ _ _. refl) c.args.words.now (vec_items c.loop-word.found) c.loop-word.word-index c.loop-word.invariant _ c.loop-word-test.true c.in_default.ensures
 
 pub loop-word-preserved : goal.loop-word-preserved
 unfolding one all

@@ -8,7 +8,7 @@ use Rattle.script.proofs.arguments.symbols_of.Goals as goal
 
 pub returns-in_err-symbol_of : goal.returns-in_err-symbol_of
 returns-in_err-symbol_of c =
-    let p = err_from_is_err_and c.from-residual.result c.from-residual.ensures.1 in
+    let p = err_from_is_err_and c.from_residual.result c.from_residual.ensures.1 in
     let unread = err_none _ _ c.in_err-symbol_of.ensures in
     rw (p.1, p.2 ∙ unread.1)
     (not_read symbol symbols refl (λ _ _. refl) c.args.numbers.now (vec_items c.loop-number.found) c.loop-number.number-index c.loop-number.invariant 0 c.loop-number-test.true unread.0)

@@ -4,4 +4,4 @@ use Rattle.script.proofs.commands.name_of.Goals as goal
 
 pub returns : goal.returns
 unfolding spelled
-returns c = c.found-in.ensures
+returns c = c.found_in.ensures

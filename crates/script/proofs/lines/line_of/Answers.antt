@@ -4,8 +4,8 @@ use Rattle.script.specs.Lines.{told}
 use Rattle.script.proofs.Reading.{empty_line, command_line, not_read}
 use Rattle.script.proofs.lines.line_of.Goals as goal
 
-pub returns-in-default : goal.returns-in-default
-returns-in-default c = empty_line c.args.words.now (search rules)
+pub returns-in_default : goal.returns-in_default
+returns-in_default c = empty_line c.args.words.now (search rules)
 
 pub returns-in-Ok : goal.returns-in-Ok
 returns-in-Ok c = ap told c.in-Ok.ensures ∙ command_line c.args.words.now _ (search rules) c.if-is_comment.ensures
