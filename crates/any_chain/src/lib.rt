@@ -4,7 +4,7 @@
 ghost use Rattle.std.specs.Prelude.{◌≡◌};
 ghost use Rattle.any_field.specs.Kinds.{meant};
 ghost use Rattle.plain.specs.Kinds.{plain as plain_of_lem};
-ghost use Rattle.reed_solomon.specs.Code.{reed_solomon as reed-solomon-of};
+ghost use Rattle.reed_solomon.specs.Code.{reed_solomon as reed_solomon_of};
 ghost use Rattle.any_chain.specs.Kinds.{chain_meant};
 ghost use Rattle.any_field.specs.Inside.{meant_field};
 ghost use Rattle.chain.specs.Held.{held};
@@ -32,7 +32,7 @@ impl AnyChain {
     }
 
     pub fn reed_solomon(field: AnyField, m: usize, sizes: &[u8]) -> AnyChain
-        ensures { chain_meant result ≡ reed-solomon-of (meant field) m sizes.now }
+        ensures { chain_meant result ≡ reed_solomon_of (meant field) m sizes.now }
     {
         AnyChain::ReedSolomon(ReedSolomon::new(field, m, sizes))
     }
@@ -45,8 +45,8 @@ impl Chain for AnyChain {
 
     // the laws are those of the chain inside
     ghost lawful = { elim [
-      | Plain c ↦ is_lawful (meant-field c.field) c.m (held c.kinds)
-      | ReedSolomon c ↦ chain-lawful (meant c.field) (meant-field c.field) c.m (held c.sizes)
+      | Plain c ↦ is_lawful (meant_field c.field) c.m (held c.kinds)
+      | ReedSolomon c ↦ chain_lawful (meant c.field) (meant_field c.field) c.m (held c.sizes)
     ] };
 
     fn flaw(&self) -> Option<Refusal> {

@@ -11,7 +11,7 @@ use Rattle.chain.specs.Answers.{answer, left, unless, is_level, is_word, scratch
 use Rattle.chain.specs.Answers as answers
 use Rattle.chain.specs.Meaning as chains
 use Rattle.code.specs.Answers as coded
-use Rattle.code.specs.Meaning as codes-of
+use Rattle.code.specs.Meaning as codes_of
 use Rattle.code.specs.Numbers.{code_flaw, k_of, n_of, codeword}
 use Rattle.printing.specs.Texts.{told, told_unless, encoded_text, corrected_text, stripped_text, codeword_text}
 
@@ -68,7 +68,7 @@ stripped_is C i b out e =
     (level_first C.flaw (is_level C i) (λ there n. option_or (unless (there && is_word C C.m b && eqb n (C.size i)) BadArgument) (unless (is_some (message_of C i b)) NoLevelWord)) (length out) (C.size i) e (λ k l. refl))
     ∙ found C.flaw (unless (is_level C i && is_word C C.m b && eqb (C.size i) (C.size i)) BadArgument) (message_of C i b) NoLevelWord out []
 
-pub codeword_is : (M : codes-of.Meaning) (xs : List ℕ) (n : ℕ) → n ≡ answers.told (code_flaw M) (n_of M) → told_unless (coded.encode_cause M xs n) (codeword M xs) ≡ codeword_text M xs
+pub codeword_is : (M : codes_of.Meaning) (xs : List ℕ) (n : ℕ) → n ≡ answers.told (code_flaw M) (n_of M) → told_unless (coded.encode_cause M xs n) (codeword M xs) ≡ codeword_text M xs
 unfolding codeword_text
 codeword_is M xs n e =
     ap (λ o. told_unless o (codeword M xs))

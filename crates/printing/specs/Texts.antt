@@ -7,7 +7,7 @@ use Rattle.refusal.specs.Printed.{printed_refusal}
 use Rattle.chain.specs.Answers.{encode_cause, correct_cause, strip_cause, message_of, word_near}
 use Rattle.chain.specs.Meaning as chains
 use Rattle.code.specs.Answers as coded
-use Rattle.code.specs.Meaning as codes-of
+use Rattle.code.specs.Meaning as codes_of
 use Rattle.code.specs.Numbers.{n_of, codeword}
 
 -- a number after a space
@@ -40,5 +40,5 @@ abbrev pub stripped_text : chains.Meaning → ℕ → List ℕ → List ℕ
 stripped_text C i b = told_unless (strip_cause C i b (C.size i)) (unwrap_or (message_of C i b) [])
 
 -- the encoding of a code M
-unfoldable pub codeword_text : codes-of.Meaning → List ℕ → List ℕ
+unfoldable pub codeword_text : codes_of.Meaning → List ℕ → List ℕ
 codeword_text M xs = told_unless (coded.encode_cause M xs (n_of M)) (codeword M xs)

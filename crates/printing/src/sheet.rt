@@ -3,7 +3,7 @@ ghost use Rattle.std.specs.Prelude.{◌≡◌, IfOk, None, string_bytes};
 ghost use Rattle.chain.specs.Meaning.{Level};
 ghost use Rattle.code.specs.Held.{meant};
 ghost use Rattle.code.specs.Numbers.{code_flaw};
-ghost use Rattle.printing.specs.Sheets.{number_or_0, level_line, chain_lines as lines-of-chain, row_line, numbers_line, details as details-of, code_lines as lines-of-code};
+ghost use Rattle.printing.specs.Sheets.{number_or_0, level_line, chain_lines as lines_of_chain, row_line, numbers_line, details as details_of, code_lines as lines_of_code};
 
 use chain::{Chain, radius};
 use code::Code;
@@ -33,7 +33,7 @@ fn level_line<C: Chain>(heap: Global, chain: &C, level: usize) -> Result<String,
 
 // The numbers of a chain and of each level.
 pub fn chain_lines<C: Chain>(heap: Global, chain: &C) -> Result<String, AllocError>
-    ensures { IfOk result (λ s. string_bytes s ≡ lines-of-chain (C.Chain.meaning chain.now)) }
+    ensures { IfOk result (λ s. string_bytes s ≡ lines_of_chain (C.Chain.meaning chain.now)) }
 {
     let flaw = flaw_number(chain.flaw());
     let m = chain.length();
@@ -75,7 +75,7 @@ fn numbers_line<C: Chain>(heap: Global, code: &Code<C>) -> Result<String, AllocE
 // The matrix and the numbers of a code without a flaw.
 fn details<C: Chain>(heap: Global, code: &Code<C>) -> Result<String, AllocError>
     requires { code_flaw (meant C.Chain.meaning code.now) ≡ None }
-    ensures { IfOk result (λ s. string_bytes s ≡ details-of (meant C.Chain.meaning code.now)) }
+    ensures { IfOk result (λ s. string_bytes s ≡ details_of (meant C.Chain.meaning code.now)) }
 {
     let mut text = String::new(heap);
     for i in 0..code.chain().levels() {
@@ -89,7 +89,7 @@ fn details<C: Chain>(heap: Global, code: &Code<C>) -> Result<String, AllocError>
 
 // The flaw of a code, and without one its matrix and its numbers.
 pub fn code_lines<C: Chain>(heap: Global, code: &Code<C>) -> Result<String, AllocError>
-    ensures { IfOk result (λ s. string_bytes s ≡ lines-of-code (meant C.Chain.meaning code.now)) }
+    ensures { IfOk result (λ s. string_bytes s ≡ lines_of_code (meant C.Chain.meaning code.now)) }
 {
     match code.flaw() {
         Some(flaw) => {

@@ -1,13 +1,13 @@
 // Symbols and refusals as text.
 ghost use Rattle.std.specs.Prelude.{◌≡◌, IfOk, string_bytes};
-ghost use Rattle.printing.specs.Texts.{listed as listed-text, told as told_text};
+ghost use Rattle.printing.specs.Texts.{listed as listed_text, told as told_text};
 
 use refusal::Refusal;
 use std::alloc::{AllocError, Global};
 
 // The symbols with one space between two.
 fn listed(heap: Global, symbols: &[u8]) -> Result<String, AllocError>
-    ensures { IfOk result (λ s. string_bytes s ≡ listed-text symbols.now) }
+    ensures { IfOk result (λ s. string_bytes s ≡ listed_text symbols.now) }
 {
     let Some((first, rest)) = symbols.split_first() else {
         return Ok(String::new(heap));

@@ -4,7 +4,7 @@ ghost use Rattle.std.specs.List.{AllByRecursion as All};
 ghost use Rattle.field.specs.Meaning.{inverse_of, opposite_of};
 ghost use Rattle.field.specs.Words.{symbols, plus_scaled};
 ghost use Rattle.algebra.specs.Symbols.{numbers, Symbols};
-ghost use Rattle.algebra.specs.Vectors.{dot as dot-of};
+ghost use Rattle.algebra.specs.Vectors.{dot as dot_of};
 ghost use Rattle.algebra.specs.Systems.{cleared};
 ghost use Rattle.reed_solomon.specs.Rows.{rows_from, Exchanged, Outcome};
 
@@ -50,7 +50,7 @@ fn dot<F: Field>(f: &F, a: &[u8], xs: &[u8]) -> u8
     requires row { Symbols (F.Field.meaning f.now) a.now }
     requires unknowns { Symbols (F.Field.meaning f.now) xs.now }
     requires long { length xs.now ≤ length a.now }
-    ensures { result ≡ dot-of (numbers (F.Field.meaning f.now)) a.now xs.now }
+    ensures { result ≡ dot_of (numbers (F.Field.meaning f.now)) a.now xs.now }
 {
     let mut sum = 0;
     for i in (0..xs.len()).rev() {
@@ -99,7 +99,7 @@ fn pivot_unknown<F: Field>(f: &F, inverse: u8, row: &[u8], xs: &[u8]) -> u8
     requires long { length row.now ≡ length xs.now + 1 }
     requires row { Symbols (F.Field.meaning f.now) row.now }
     requires unknowns { Symbols (F.Field.meaning f.now) xs.now }
-    ensures { result ≡ (F.Field.meaning f.now).product inverse ((F.Field.meaning f.now).sum (slice_index row.now (length xs.now)) (opposite_of (F.Field.meaning f.now) (dot-of (numbers (F.Field.meaning f.now)) row.now xs.now))) }
+    ensures { result ≡ (F.Field.meaning f.now).product inverse ((F.Field.meaning f.now).sum (slice_index row.now (length xs.now)) (opposite_of (F.Field.meaning f.now) (dot_of (numbers (F.Field.meaning f.now)) row.now xs.now))) }
 {
     multiply(
         f,

@@ -1,16 +1,11 @@
 -- One turn of the search for a name. Assumes nothing.
 use Rattle.std.proofs.Common.{◌≡◌, ℕ, ◌+◌, ◌<◌, ◌≤◌, Bool, true, false, cond, List, length, get_or, drop, Some, None, Decides, sym, ap, ◌∙◌, Bor}
-use Rattle.std.specs.Cmp.Lexicographic.{Matches}
 use Rattle.std.specs.Str.{bytes_eq}
 use Rattle.std.proofs.lemmas.Slice.Eq.{slice_eq-Decides, bytes_eq-Decides}
 use Rattle.std.proofs.lemmas.List.{at_drop_more, at_drop_all}
 use Rattle.std.proofs.lemmas.Bool.Decides.{same_from_decides, Decides-eqb}
 use Rattle.script.specs.declared.commands.Name.{Name}
 use Rattle.script.specs.Commands.{entries, named}
-
--- what `==` on slices answers
-pub same : (xs ys : List ℕ) (r : Bool) → Matches (λ (a b : ℕ) (t : Bool). Decides t (a ≡ b)) xs ys r → r ≡ bytes_eq xs ys
-same xs ys r m = same_from_decides r (bytes_eq xs ys) (slice_eq-Decides Decides-eqb xs ys r m) (bytes_eq-Decides xs ys)
 
 module _ (table : List (Bor (List ℕ) × Name)) (word : List ℕ) (i : ℕ) where
   pub here : (d : Bor (List ℕ) × Name) → i < length table → true ≡ bytes_eq (get_or table i d).0.now word → Some (get_or table i d).1 ≡ named (entries (drop i table)) word

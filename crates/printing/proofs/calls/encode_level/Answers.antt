@@ -8,8 +8,8 @@ returns g c =
     let C = g.C.Chain.meaning c.args.chain.now in
     let i = c.args.level in
     let xs = c.args.message.now in
-    let out = c.as-mut-slice.result.now in
+    let out = c.as_mut_slice.result.now in
     text_is c.told.result string_bytes
-    (told_by (encode_cause C i xs (length out)) (C.encoding i xs) out (c.as-slice.ensures.value ∙ written_back c.encode-result.new.out _ _ (sym (c.encode-result.auto.out ∙ c.as-mut-slice.ensures.len))) c.encode-result.ensures.result c.encode-result.ensures.after
-    ∙ encoded_is C i xs (length out) (c.as-mut-slice.ensures.len ∙ c.in_ok-out.ensures.len ∙ c.length.ensures))
+    (told_by (encode_cause C i xs (length out)) (C.encoding i xs) out (c.as_slice.ensures.value ∙ written_back c.encode-result.new.out _ _ (sym (c.encode-result.auto.out ∙ c.as_mut_slice.ensures.len))) c.encode-result.ensures.result c.encode-result.ensures.after
+    ∙ encoded_is C i xs (length out) (c.as_mut_slice.ensures.len ∙ c.in_ok-out.ensures.len ∙ c.length.ensures))
     c.told.ensures
