@@ -11,8 +11,8 @@ returns-in-Some g c =
     let is : code_flaw M ≡ Some c.in-Some.flaw = sym c.flaw.ensures ∙ c.in-Some.is in
     text_is c.format.result string_bytes (ap (λ n. 10 ∷ (codes "code flaw " ++ decimal n)) c.number-number.ensures ∙ ap (λ f. code_lines_by f M) (sym is)) c.format.ensures.ok
 
-pub returns-in_ok-rest : goal.returns-in_ok-rest
-returns-in_ok-rest g c =
+pub returns-in_ok-rest-in-None : goal.returns-in_ok-rest-in-None
+returns-in_ok-rest-in-None g c =
     let M = meant g.C.Chain.meaning c.args.code.now in
     let is : code_flaw M ≡ None = sym c.flaw.ensures ∙ c.in-None.is in
-    text_is c.format-in-None.result string_bytes (ap (λ bs. 10 ∷ (codes "code flaw 0" ++ bs)) c.in_ok-rest.ensures ∙ ap (λ f. code_lines_by f M) (sym is)) c.format-in-None.ensures.ok
+    text_is c.format-in-None.result string_bytes (ap (λ bs. 10 ∷ (codes "code flaw 0" ++ bs)) c.in_ok-rest-in-None.ensures ∙ ap (λ f. code_lines_by f M) (sym is)) c.format-in-None.ensures.ok
