@@ -1,11 +1,12 @@
 #!/bin/sh
 # Runs the built console on hostile scripts, and compares what it prints and its status. Exits 1 if any differs.
-# Run it from anywhere, after `rt check` has built target/bin/console.
+# Run it from anywhere, after `rt run` in crates/console has built the program.
 LC_ALL=C
 export LC_ALL
 cd "$(dirname "$0")/.." || exit 1
-console=target/bin/console
-[ -x "$console" ] || { echo "no $console: run rt check first"; exit 1; }
+console=crates/console/out/console
+[ -x "$console" ] || { echo "no $console: run rt run in crates/console first"; exit 1; }
+mkdir -p target
 dir=$(mktemp -d target/hostile.XXXXXX) || exit 1
 trap 'rm -rf "$dir"' EXIT
 failed=0

@@ -1,15 +1,12 @@
 -- How many elements pass a test, and the distance of words as the weight of their difference. Assumes nothing.
-use Rattle.std.proofs.Common.{◌≡◌, ℕ, suc, ◌+◌, ◌-◌, ◌/◌, ◌<◌, ◌≤◌, Bool, true, false, not, T, eqb, ◌≢◌, List, [], ◌∷◌, ◌++◌, map, length, sym, refl, ap, ◌∙◌, subst, arith, eqb→eq}
-use native.Mathlib.Decide.{ℕ_discrete}
-use lib.Dec.{eqb_refl}
+use Rattle.std.proofs.Common.{◌≡◌, ℕ, suc, ◌+◌, ◌≤◌, Bool, true, false, not, T, List, [], ◌∷◌, ◌++◌, length, refl, ap, ◌∙◌, arith}
 use Rattle.std.specs.List.{AllByRecursion as All}
 use Rattle.algebra.specs.FieldOn.{FieldOn}
 use Rattle.algebra.specs.Vectors.{minus}
-use Rattle.field.specs.Places.{unless, distance_by, Tells}
+use Rattle.field.specs.Places.{unless, Tells}
 use Rattle.field.proofs.Metric.{bool_path, unless_add, none_step}
 use Rattle.algebra.specs.Distance.{given, told, passing, failing, same_in, is_zero, distance_in, weight}
 use Rattle.algebra.proofs.Ring.{equal_from_difference, difference_zero}
-use Rattle.algebra.proofs.Vectors.{cons_path}
 
 pub told_yes : {P : Type 0} (d : Dec P) → T (told d) → P
 told_yes (yes p) t = p

@@ -1,13 +1,13 @@
 -- The answers of a chain, by what its checks and its search found. Assumes nothing.
-use Rattle.std.proofs.Common.{◌≡◌, ℕ, ◌-◌, ◌/◌, ◌<◌, ◌≤◌, Bool, true, false, ◌&&◌, T, eqb, leb, List, length, is_some, Some, None, Ok, Err, Option, Result, unwrap_or, sym, refl, ap, ◌∙◌, subst, ap₂, arith, le→leb, eqb→eq, leb→le}
+use Rattle.std.proofs.Common.{◌≡◌, ℕ, ◌-◌, ◌/◌, ◌<◌, ◌≤◌, Bool, true, false, ◌&&◌, T, eqb, leb, List, length, is_some, Some, None, Ok, Err, Option, Result, unwrap_or, sym, refl, ap, ◌∙◌, subst, arith, le→leb, eqb→eq, leb→le}
 use lib.Dec.{eqb_refl}
 use Rattle.std.specs.Option.{option_map, option_or}
 use Rattle.refusal.specs.declared.Refusal.{Refusal}
 use Rattle.refusal.specs.declared.Refusal.TheVariants.{BadArgument, NoLevelWord, ShortScratch}
 use Rattle.field.specs.Words.{symbols}
 use Rattle.field.proofs.Accepted.{both_hold}
-use Rattle.field.proofs.Tests.{both_left, both_right, true_is}
-use Rattle.chain.specs.Answers.{answer, left, unless, told_of_level, is_level, is_word, encode_cause, early_cause, correct_cause, strip_cause, encoded, corrected, stripped, scratch_bytes, message_near, message_of, word_near}
+use Rattle.field.proofs.Tests.{both_left, both_right}
+use Rattle.chain.specs.Answers.{answer, left, unless, told_of_level, is_level, is_word, encode_cause, early_cause, correct_cause, strip_cause, scratch_bytes, message_near, message_of, word_near}
 use Rattle.chain.specs.Calls.{Encodes, Corrects, Strips}
 use Rattle.chain.specs.Meaning.{Meaning, Level, Word, radius}
 

@@ -1,17 +1,15 @@
 -- What follows of a chain from its laws, and what its definitions by search find. Assumes nothing.
-use Rattle.std.proofs.Common.{◌≡◌, ℕ, suc, ◌+◌, ◌-◌, ◌/◌, ◌<◌, ◌≤◌, Bool, true, false, T, eqb, leb, List, [], ◌∷◌, length, replicate, Some, None, Option, sym, refl, ap, ◌∙◌, subst, ap₂, arith, le→leb, eqb→eq, leb→le}
-use native.Mathlib.Decide.{dec_le}
-use lib.Dec.{eqb_refl}
+use Rattle.std.proofs.Common.{◌≡◌, ℕ, ◌<◌, ◌≤◌, T, eqb, leb, List, replicate, Some, None, sym, refl, ap, ◌∙◌, subst, ap₂, le→leb, eqb→eq, leb→le}
 use Rattle.field.specs.Places.{distance as differing}
-use Rattle.field.specs.Words.{symbols, added, scaled}
+use Rattle.field.specs.Words.{added, scaled}
 use Rattle.field.proofs.Metric.{eqb_tells, distance_zero, distance_itself, nearest_only_half}
 use Rattle.field.proofs.Unique.{zero_small}
 use Rattle.field.proofs.Vectors.{length_added, length_scaled, added_closed, scaled_closed, scaled_zero, symbols_replicate}
 use Rattle.chain.specs.Answers.{message_of, message_near, words_equal}
 use Rattle.chain.specs.Follows.{LevelFacts}
-use Rattle.chain.specs.Meaning.{Meaning, IsChain, Level, Message, OfLevel, Word, radius}
-use Rattle.chain.specs.Search.{all_words, first_that}
-use Rattle.chain.proofs.Searching.{In, Found, all_words_has, all_words_are, first_that_some, first_that_none}
+use Rattle.chain.specs.Meaning.{Meaning, IsChain, Level, Message, OfLevel, radius}
+use Rattle.chain.specs.Search.{all_words}
+use Rattle.chain.proofs.Searching.{In, all_words_has, all_words_are, first_that_some, first_that_none}
 
 module _ {C : Meaning} (lawful : IsChain C) (i : ℕ) (level : Level C i) where
   pub one_near : (b v w : List ℕ) → OfLevel C i v → OfLevel C i w → differing v b ≤ radius (C.distance i) → differing w b ≤ radius (C.distance i) → v ≡ w

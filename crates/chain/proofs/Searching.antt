@@ -1,9 +1,9 @@
 -- What a search through all messages finds. Assumes nothing.
-use Rattle.std.proofs.Common.{◌≡◌, ℕ, zero, suc, ◌<◌, ◌≤◌, Bool, true, false, cond, ◌&&◌, T, ltb, ◌⊎◌, List, [], ◌∷◌, ◌++◌, map, length, Some, None, Option, sym, refl, ap, ◌∙◌, subst, ap₂, inl, inr, ⊎_elim, arith, ltb→lt, lt→ltb}
+use Rattle.std.proofs.Common.{◌≡◌, ℕ, zero, suc, ◌<◌, Bool, true, false, cond, T, ltb, ◌⊎◌, List, [], ◌∷◌, ◌++◌, map, length, Some, None, sym, refl, ap, ◌∙◌, subst, inl, inr, ⊎_elim, arith, ltb→lt, lt→ltb}
 use native.Mathlib.Decide.{dec_lt}
 use Rattle.field.specs.Words.{symbols}
 use Rattle.field.proofs.Accepted.{both_hold}
-use Rattle.field.proofs.Tests.{both_left, both_right, true_is}
+use Rattle.field.proofs.Tests.{both_left, both_right}
 use Rattle.chain.specs.Search.{led_by, all_words, first_that}
 
 abbrev pub In : List ℕ → List (List ℕ) → Type 0

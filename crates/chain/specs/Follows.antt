@@ -1,5 +1,5 @@
 -- What follows of every chain from its laws alone. Assumes nothing.
-use Rattle.std.specs.Prelude.{◌≡◌, ℕ, ◌<◌, ◌≤◌, List, length, replicate, None, Option}
+use Rattle.std.specs.Prelude.{◌≡◌, ℕ, ◌<◌, ◌≤◌, List, replicate, None}
 use Rattle.field.specs.Places.{distance as differing}
 use Rattle.field.specs.Words.{added, scaled}
 use Rattle.chain.specs.Meaning.{Meaning, Level, Message, OfLevel, radius}

@@ -1,5 +1,5 @@
 -- A search through all messages, to define what is looked for; it is never run. Assumes nothing.
-use Rattle.std.specs.Prelude.{ℕ, zero, suc, Bool, true, false, cond, List, [], ◌∷◌, ◌++◌, map, Some, None, Option}
+use Rattle.std.specs.Prelude.{ℕ, zero, suc, Bool, cond, List, [], ◌∷◌, ◌++◌, map, Some, None, Option}
 
 -- each word with one of the n symbols below n in front
 unfoldable pub led_by : ℕ → List (List ℕ) → List (List ℕ)

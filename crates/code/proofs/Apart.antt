@@ -5,7 +5,7 @@ use Rattle.std.specs.List.{AllByRecursion as All}
 use Rattle.field.specs.Meaning.{IsField}
 use Rattle.field.specs.Meaning as fields
 use Rattle.field.specs.Places.{distance}
-use Rattle.field.specs.Words.{symbols, added, scaled}
+use Rattle.field.specs.Words.{added, scaled}
 use Rattle.field.proofs.Metric.{eqb_tells, distance_zero, nearest_only_half}
 use Rattle.field.proofs.Vectors.{length_scaled}
 use Rattle.algebra.specs.Distance.{weight}

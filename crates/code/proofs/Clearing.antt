@@ -5,7 +5,7 @@ use lib.Dec.{eqb_refl}
 use Rattle.std.proofs.ByRecursion.{All-get_or}
 use Rattle.std.proofs.lemmas.List.{get_or-take, get_or_past, get_or-drop, take_more, take_more_set, take_all, drop_more, map_push}
 use Rattle.field.specs.Meaning.{Meaning, IsField, opposite_of, inverse_of}
-use Rattle.field.specs.Words.{symbols, added, plus_scaled, addable, product_or_0, opposite_or_0, inverse_or_0}
+use Rattle.field.specs.Words.{symbols, plus_scaled, addable, product_or_0, opposite_or_0, inverse_or_0}
 use Rattle.field.proofs.Accepted.{both_hold, product_or_0_is, opposite_or_0_is, inverse_or_0_is}
 use Rattle.field.proofs.Laws.{product_zero, opposite_of_multiple, opposite_small}
 use Rattle.field.proofs.Tests.{true_is}

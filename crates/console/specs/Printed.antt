@@ -6,7 +6,6 @@ use Rattle.console.specs.declared.answer.Answer.TheVariants.{Field, Symbol, Chai
 use Rattle.console.specs.declared.answer.Failure.{Failure}
 use Rattle.console.specs.declared.answer.Failure.TheVariants.{NotYet, Refused}
 use Rattle.console.specs.declared.answer.Missing.{Missing}
-use Rattle.console.specs.declared.answer.Missing.TheVariants as Missing
 
 abbrev pub printed_missing : Missing → List ℕ
 printed_missing Missing.Field = codes "field"

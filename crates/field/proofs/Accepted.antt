@@ -1,5 +1,5 @@
 -- What a call of a field answers once its arguments are known to be symbols. Assumes nothing.
-use Rattle.std.proofs.Common.{◌≡◌, ℕ, ◌<◌, Bool, true, false, not, ◌&&◌, T, eqb, ltb, Ok, Result, sym, refl, ap, ◌∙◌, eqb→eq, lt→ltb}
+use Rattle.std.proofs.Common.{◌≡◌, ℕ, ◌<◌, Bool, true, false, not, ◌&&◌, T, eqb, ltb, Ok, Result, refl, ap, eqb→eq, lt→ltb}
 use lib.Dec.{not_T}
 use Rattle.refusal.specs.declared.Refusal.{Refusal}
 use Rattle.std.specs.Result.{result_unwrap_or}

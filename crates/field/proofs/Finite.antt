@@ -1,6 +1,5 @@
 -- A meaning that passes a computed test of each law is a field. Assumes nothing.
-use Rattle.std.proofs.Common.{◌≡◌, ℕ, ◌<◌, ◌≤◌, Bool, true, false, not, ◌&&◌, ◌||◌, T, eqb, ltb, leb, sym, ap, subst, eqb→eq, ltb→lt, leb→le}
-use lib.Dec.{eqb_refl}
+use Rattle.std.proofs.Common.{Bool, true, false, ◌&&◌, ◌||◌, T, eqb, ltb, leb, eqb→eq, ltb→lt, leb→le}
 use Rattle.field.specs.Meaning.{Meaning, IsField, opposite_of, inverse_of}
 use Rattle.field.proofs.Tests.{both_left, both_right, each, each², each³, each_at, each²_at, each³_at}
 

@@ -1,7 +1,7 @@
 -- What follows of symbols from the laws of a field. Assumes nothing.
-use Rattle.std.proofs.Common.{◌≡◌, ℕ, ◌<◌, sym, refl, ap, ◌∙◌, subst, ap₂, arith}
-use Rattle.field.specs.Meaning.{Meaning, IsField, opposite_of, inverse_of}
-use Rattle.field.proofs.Unique.{zero_small, one_small, opposite_exact, inverse_exact, opposite_is}
+use Rattle.std.proofs.Common.{◌≡◌, ℕ, ◌<◌, sym, ap, ◌∙◌, ap₂}
+use Rattle.field.specs.Meaning.{Meaning, IsField, opposite_of}
+use Rattle.field.proofs.Unique.{zero_small, one_small, opposite_exact, opposite_is}
 
 module _ {F : Meaning} (lawful : IsField F) where
   pub zero_sum : (a : ℕ) → a < F.q → F.sum 0 a ≡ a

@@ -1,5 +1,5 @@
 -- A symbol has exactly one opposite, and every symbol but 0 exactly one inverse. Assumes nothing.
-use Rattle.std.proofs.Common.{◌≡◌, ℕ, ◌<◌, ◌≤◌, T, eqb, sym, refl, ap, ◌∙◌, subst, arith, eqb→eq}
+use Rattle.std.proofs.Common.{◌≡◌, ℕ, ◌<◌, T, eqb, sym, ap, ◌∙◌, subst, arith, eqb→eq}
 use lib.Dec.{eqb_refl}
 use Rattle.field.specs.Meaning.{Meaning, IsField, first, opposite_of, inverse_of, Exactly}
 use Rattle.field.proofs.Tests.{first_passes}

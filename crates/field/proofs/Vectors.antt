@@ -1,14 +1,14 @@
 -- Sums and multiples of words. Assumes nothing.
-use Rattle.std.proofs.Common.{◌≡◌, ℕ, zero, suc, ◌+◌, ◌<◌, ◌≤◌, Bool, true, false, ◌&&◌, T, eqb, ltb, List, [], ◌∷◌, ◌++◌, length, take, replicate, sym, refl, ap, ◌∙◌, subst, ap₂, arith, eqb→eq, ltb→lt, lt→ltb}
+use Rattle.std.proofs.Common.{◌≡◌, ℕ, zero, suc, ◌<◌, ◌≤◌, T, eqb, ltb, List, [], ◌∷◌, ◌++◌, length, take, replicate, sym, refl, ap, ◌∙◌, subst, ap₂, arith, eqb→eq, ltb→lt, lt→ltb}
 use native.Mathlib.Decide.{ℕ_discrete}
 use lib.Dec.{eqb_refl}
-use Rattle.field.specs.Meaning.{Meaning, IsField, opposite_of}
+use Rattle.field.specs.Meaning.{Meaning, IsField}
 use Rattle.field.specs.Places.{unless, distance}
 use Rattle.field.specs.Words.{symbols, added, scaled, total}
 use Rattle.field.proofs.Accepted.{both_hold}
 use Rattle.field.proofs.Tests.{both_left, both_right, true_is, is_false}
 use Rattle.field.proofs.Metric.{eqb_tells, distance_zero}
-use Rattle.field.proofs.Laws.{cancel, zero_sum, zero_product, one_product, product_zero, exchange}
+use Rattle.field.proofs.Laws.{cancel, zero_sum, zero_product, product_zero, exchange}
 use Rattle.field.proofs.Unique.{zero_small}
 use Rattle.field.proofs.WordLaws.{total_closed}
 

@@ -1,8 +1,8 @@
 -- Words of symbols: the steps of the loops over them, and what they keep. Assumes nothing.
-use Rattle.std.proofs.Common.{◌≡◌, ℕ, zero, suc, ◌+◌, ◌-◌, ◌<◌, ◌≤◌, min, max, Bool, true, false, cond, ◌&&◌, T, eqb, ltb, List, [], ◌∷◌, ◌++◌, length, get_or, take, drop, set, sym, refl, ap, ◌∙◌, subst, ap₂, append-nil, le_of_suc-le-suc, add-zero, add_assoc, zero-add, arith, eqb→eq, ltb→lt, lt→ltb, nltb→le, length-drop, length-set, length-take, take_all}
+use Rattle.std.proofs.Common.{◌≡◌, ℕ, zero, suc, ◌+◌, ◌-◌, ◌<◌, ◌≤◌, min, max, false, T, eqb, ltb, List, [], ◌∷◌, ◌++◌, length, get_or, take, drop, set, sym, refl, ap, ◌∙◌, subst, ap₂, append-nil, le_of_suc-le-suc, arith, eqb→eq, ltb→lt, lt→ltb, length-drop, take_all}
 use native.Mathlib.Decide.{dec_le}
-use lib.Dec.{eqb_refl, not_T}
-use Rattle.std.proofs.lemmas.List.{at_drop_more, at_drop_all, drop_all, take_more_set, drop-set-lt, drop_more, length-append, append_assoc}
+use lib.Dec.{eqb_refl}
+use Rattle.std.proofs.lemmas.List.{at_drop_more, drop_all, take_more_set, drop-set-lt, drop_more, append_assoc}
 use Rattle.field.specs.Meaning.{Meaning, IsField}
 use Rattle.field.specs.Places.{unless, distance}
 use Rattle.field.specs.Words.{symbols, total, value_at, plus_scaled, sum_or_0, product_or_0}

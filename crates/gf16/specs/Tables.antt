@@ -1,10 +1,10 @@
 -- The tables of GF(16) and their rules, each shown by one test that is computed over the whole table. Assumes nothing.
-use Rattle.std.specs.Prelude.{◌≡◌, Bool, ◌&&◌, List, [], ◌∷◌, ℕ, suc, ◌+◌, ◌-◌, ◌%◌, ◌<◌, T, eqb, ltb, get_or}
+use Rattle.std.specs.Prelude.{◌≡◌, ◌&&◌, List, [], ◌∷◌, ℕ, suc, ◌+◌, ◌-◌, ◌%◌, ◌<◌, T, eqb, ltb, get_or}
 use Rattle.std.proofs.Common.{sym, ◌∙◌, ap, mod-lt, arith, eqb→eq, ltb→lt, lit<}
 use Rattle.std.specs.Int.Bits.{bit_xor}
 use Rattle.field.specs.Meaning.{IsField, inverse_of, opposite_of}
-use Rattle.field.proofs.Tests.{each, each², each_at, each²_at, both_left, both_right}
-use Rattle.field.proofs.Finite.{Tested, field_by_tests}
+use Rattle.field.proofs.Tests.{each_at, each²_at, both_left, both_right}
+use Rattle.field.proofs.Finite.{field_by_tests}
 use Rattle.field.proofs.Unique.{opposite_is, inverse_is}
 use Rattle.gf16.specs.Product.{product, power, sixteen}
 

@@ -1,6 +1,6 @@
 -- Sum and product by remainder are those of a field at each supported prime. Assumes nothing.
-use Rattle.std.specs.Prelude.{◌≡◌, ℕ, ◌+◌, ◌-◌, ◌*◌, ◌/◌, ◌%◌, ◌<◌, ◌≤◌, Bool, true, false, ◌&&◌, ◌||◌, T, ◌⊎◌, ◌==◌, nat_lt, refl}
-use Rattle.std.proofs.Common.{sym, ap, subst, ◌∙◌, inl, inr, ⊎_elim, mod-lt, mod-eq_of_lt, mul_comm, mul_assoc, mul-add, add-mul, add_comm, add_assoc, add-zero, mul-one, sub-add_cancel, add-sub_cancel, arith, eqb→eq, ltb→lt, lit<, lit≤}
+use Rattle.std.specs.Prelude.{◌≡◌, ℕ, ◌+◌, ◌-◌, ◌*◌, ◌/◌, ◌%◌, ◌<◌, ◌≤◌, Bool, true, false, ◌&&◌, ◌||◌, T, ◌⊎◌, ◌==◌, nat_lt}
+use Rattle.std.proofs.Common.{sym, ap, subst, ◌∙◌, inl, inr, ⊎_elim, mod-lt, mod-eq_of_lt, mul_comm, mul_assoc, mul-add, add-mul, add_comm, add_assoc, add-zero, mul-one, arith, eqb→eq, ltb→lt, lit<, lit≤}
 use Rattle.std.proofs.Math.Nat.{mod_self, div-add-mod, mul-add-mod_self_left, mod-add-mod, add-mod-mod}
 use Rattle.field.specs.Meaning.{IsField, inverse_of}
 use Rattle.field.proofs.Tests.{each, each_at, both_left, both_right}

@@ -1,8 +1,8 @@
 -- What the calls of a plain chain answer, from what its functions over words found. Assumes nothing.
-use Rattle.std.proofs.Common.{◌≡◌, ℕ, ◌<◌, ◌≤◌, Bool, true, false, T, List, length, take, Some, None, Ok, Err, Option, Result, sym, refl, ap, ◌∙◌, subst, ap₂, arith}
+use Rattle.std.proofs.Common.{◌≡◌, ℕ, ◌≤◌, Bool, true, false, T, List, length, take, Some, None, Ok, Err, Option, Result, sym, refl, ap, ◌∙◌, subst, arith}
 use Rattle.std.specs.Bool.{then_some}
 use Rattle.refusal.specs.declared.Refusal.{Refusal}
-use Rattle.refusal.specs.declared.Refusal.TheVariants.{BadArgument, NoLevelWord, ShortScratch}
+use Rattle.refusal.specs.declared.Refusal.TheVariants.{BadArgument, NoLevelWord}
 use Rattle.field.specs.Meaning.{IsField}
 use Rattle.field.specs.Meaning as fields
 use Rattle.field.specs.Places.{distance}
@@ -12,7 +12,7 @@ use Rattle.chain.specs.Meaning.{Meaning, Level, Word, radius}
 use Rattle.chain.proofs.Causes.{is_level_yes, encode_bad, correct_bad, correct_none, correct_done, strip_bad, strip_none, strip_done}
 use Rattle.chain.proofs.Facts.{message_near_is, message_near_none, message_of_is, message_of_none}
 use Rattle.plain.specs.Kinds.{plain, plain_flaw, sound, kind_at, kind_size, kind_distance, kind_word, is_kind}
-use Rattle.plain.specs.Words.{fits, Near, BlockCorrected, BlockStripped}
+use Rattle.plain.specs.Words.{fits, BlockCorrected, BlockStripped}
 use Rattle.plain.specs.declared.words.Kind.{Kind}
 use Rattle.plain.specs.KindLaws as kinds
 use Rattle.plain.specs.Lawful.{Shape, shape, is_chain, plain_sound}

@@ -1,7 +1,6 @@
 -- When a block is near to a word of a kind. Assumes nothing.
-use Rattle.std.proofs.Common.{◌≡◌, ℕ, zero, suc, ◌+◌, ◌-◌, ◌/◌, ◌<◌, ◌≤◌, Bool, true, false, T, eqb, List, [], ◌∷◌, length, get_or, take, replicate, sym, refl, ap, ◌∙◌, subst, ap₂, arith, eqb→eq, lt→ltb}
+use Rattle.std.proofs.Common.{◌≡◌, ℕ, suc, ◌<◌, ◌≤◌, T, eqb, List, [], ◌∷◌, length, get_or, take, replicate, sym, refl, ◌∙◌, subst, arith, eqb→eq, lt→ltb}
 use native.Mathlib.Decide.{ℕ_discrete}
-use lib.Dec.{eqb_refl}
 use Rattle.field.specs.Meaning.{IsField}
 use Rattle.field.specs.Meaning as fields
 use Rattle.field.specs.Places.{distance, unless}
@@ -11,7 +10,7 @@ use Rattle.field.proofs.Metric.{eqb_tells, distance_zero, distance_itself}
 use Rattle.field.proofs.Tests.{is_false}
 use Rattle.field.proofs.WordLaws.{symbol_at}
 use Rattle.chain.specs.Meaning.{Word, radius}
-use Rattle.plain.specs.Kinds.{kind_size, kind_distance, kind_word}
+use Rattle.plain.specs.Kinds.{kind_size, kind_distance}
 use Rattle.plain.specs.Words.{fits, others, Elected, Near}
 use Rattle.plain.specs.declared.words.Kind.{Kind}
 use Rattle.plain.specs.declared.words.Kind.TheVariants.{Every, ZeroSum, Repeated}

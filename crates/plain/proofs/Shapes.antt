@@ -1,5 +1,5 @@
 -- The tests on a list of kinds, step by step. Assumes nothing.
-use Rattle.std.proofs.Common.{◌≡◌, ℕ, zero, suc, ◌+◌, ◌-◌, ◌<◌, ◌≤◌, Bool, true, false, ◌&&◌, ◌||◌, T, eqb, leb, List, [], ◌∷◌, length, get_or, take, drop, replicate, Ok, sym, refl, ap, ◌∙◌, subst, ap₂, arith, le→leb, eqb→eq, leb→le, length-drop}
+use Rattle.std.proofs.Common.{◌≡◌, ℕ, ◌+◌, ◌-◌, ◌<◌, ◌≤◌, Bool, true, false, ◌||◌, T, eqb, List, [], ◌∷◌, length, get_or, take, drop, replicate, Ok, sym, refl, ap, ◌∙◌, subst, arith, le→leb, eqb→eq, leb→le, length-drop}
 use lib.Dec.{eqb_refl}
 use Rattle.std.proofs.lemmas.List.{at_drop_more, drop_more, take-replicate}
 use Rattle.field.specs.Meaning.{IsField}
@@ -8,7 +8,7 @@ use Rattle.field.specs.Words.{totalled}
 use Rattle.field.proofs.Accepted.{passed}
 use Rattle.field.proofs.Unique.{one_small}
 use Rattle.field.proofs.Vectors.{symbols_replicate}
-use Rattle.field.proofs.Tests.{true_is, is_false, and_true, and_false}
+use Rattle.field.proofs.Tests.{and_true, and_false}
 use Rattle.plain.specs.Kinds.{rising, has, ones}
 
 or_false : (a b : Bool) → (T a → ⊥) → (a || b) ≡ b

@@ -1,9 +1,8 @@
 -- The laws of the three kinds of level. Assumes nothing.
-use Rattle.std.specs.Prelude.{◌≡◌, ℕ, zero, suc, ◌+◌, ◌-◌, ◌<◌, ◌≤◌, Bool, true, false, T, List, [], ◌∷◌, ◌++◌, length, take, replicate, ◌==◌, ◌≢◌, nat_eq, slice_index, slice_index_or, refl}
-use Rattle.std.proofs.Common.{sym, ap, ap₂, subst, ◌∙◌, append-nil, arith, eqb→eq, lt→ltb, length-take, length-append, take-append-drop, take_all, length-take-le}
-use Rattle.std.proofs.Math.Decide.{ℕ_discrete, dec_le}
-use Rattle.std.proofs.Math.Dec.{eqb_refl}
-use Rattle.std.proofs.lemmas.List.{get_or-replicate, get_or-take, drop_more, drop_all, same_from_push, length_push, get_or_push, length-replicate}
+use Rattle.std.specs.Prelude.{◌≡◌, ℕ, zero, suc, ◌+◌, ◌-◌, ◌<◌, ◌≤◌, T, List, [], ◌∷◌, ◌++◌, length, take, replicate, ◌==◌, ◌≢◌, nat_eq, slice_index, slice_index_or, refl}
+use Rattle.std.proofs.Common.{sym, ap, ap₂, subst, ◌∙◌, arith, eqb→eq, lt→ltb, take-append-drop, take_all, length-take-le}
+use Rattle.std.proofs.Math.Decide.{dec_le}
+use Rattle.std.proofs.lemmas.List.{get_or-replicate, get_or-take, drop_more, drop_all, same_from_push, length_push, length-replicate}
 use Rattle.field.specs.Meaning.{IsField, opposite_of}
 use Rattle.field.specs.Meaning as fields
 use Rattle.field.specs.Places.{distance, unless}
@@ -12,7 +11,7 @@ use Rattle.field.proofs.Accepted.{both_hold}
 use Rattle.field.proofs.Laws.{opposite_small, sum_opposite, opposite_of_sum, opposite_of_multiple}
 use Rattle.field.proofs.Metric.{eqb_tells, distance_zero, distance_itself}
 use Rattle.field.proofs.Tests.{is_false}
-use Rattle.field.proofs.Unique.{zero_small, opposite_is}
+use Rattle.field.proofs.Unique.{opposite_is}
 use Rattle.field.proofs.Vectors.{added_append, scaled_append, added_replicate, scaled_replicate, symbols_take, symbols_append, symbols_replicate, total_append, total_added, total_scaled, one_total}
 use Rattle.field.proofs.WordLaws.{symbol_at, total_closed}
 use Rattle.chain.specs.Meaning.{Word}

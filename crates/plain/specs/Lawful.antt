@@ -1,24 +1,23 @@
 -- The plain chain is a chain, at every field. Assumes nothing.
-use Rattle.std.specs.Prelude.{◌≡◌, ℕ, zero, suc, ◌+◌, ◌-◌, ◌<◌, ◌≤◌, Bool, true, false, not, ◌&&◌, ◌||◌, T, ◌⊎◌, List, [], ◌∷◌, length, take, replicate, Some, None, Option, ◌==◌, ◌≢◌, nat_le, slice_index, slice_index_or, refl}
-use Rattle.std.proofs.Common.{sym, ap, ap₂, subst, ◌∙◌, inl, inr, ⊎_elim, le_of_suc-le-suc, arith, leb→le, eqb→eq}
+use Rattle.std.specs.Prelude.{◌≡◌, ℕ, zero, suc, ◌-◌, ◌<◌, ◌≤◌, Bool, true, false, not, ◌&&◌, ◌||◌, T, List, [], ◌∷◌, length, take, replicate, Some, None, Option, ◌==◌, ◌≢◌, nat_le, slice_index, slice_index_or, refl}
+use Rattle.std.proofs.Common.{sym, ap, subst, ◌∙◌, le_of_suc-le-suc, arith, leb→le, eqb→eq}
 use Rattle.std.proofs.Math.Dec.{eqb_refl}
-use Rattle.std.proofs.lemmas.List.{length-replicate}
 use Rattle.std.specs.Option.{option_or}
 use Rattle.refusal.specs.declared.Refusal.{Refusal}
 use Rattle.refusal.specs.declared.Refusal.TheVariants.{ChainLength, LevelCount, LevelShape}
 use Rattle.field.specs.Meaning.{IsField, opposite_of}
 use Rattle.field.specs.Meaning as fields
 use Rattle.field.specs.Places.{distance}
-use Rattle.field.specs.Words.{symbols, scaled, total}
+use Rattle.field.specs.Words.{symbols, total}
 use Rattle.field.proofs.Laws.{product_zero}
 use Rattle.field.proofs.Tests.{both_left, both_right}
 use Rattle.field.proofs.Unique.{one_small}
 use Rattle.field.proofs.Vectors.{scaled_replicate, total_scaled, symbols_replicate}
 use Rattle.field.proofs.WordLaws.{symbol_at}
 use Rattle.chain.specs.Answers.{unless}
-use Rattle.chain.specs.Meaning.{Meaning, IsChain, Lawful, Level, Message, OfLevel, Word, flawed}
+use Rattle.chain.specs.Meaning.{IsChain, Lawful, Level, OfLevel, Word, flawed}
 use Rattle.plain.specs.Kinds.{kind_of, kind_at, kind_size, kind_distance, kind_word, rising, has, ones, kinds_fit, plain_flaw, sound, sound_unless, plain}
-use Rattle.plain.specs.Words.{fits, others}
+use Rattle.plain.specs.Words.{fits}
 use Rattle.plain.specs.declared.words.Kind.{Kind}
 use Rattle.plain.specs.declared.words.Kind.TheVariants.{Every, ZeroSum, Repeated}
 use Rattle.plain.specs.KindLaws as kinds

@@ -1,5 +1,5 @@
 -- When a block is a word of a kind. Assumes nothing.
-use Rattle.std.specs.Prelude.{◌≡◌, ℕ, ◌<◌, ◌≤◌, Bool, true, false, T, List, length, take, replicate, Ok, Err, Result, ◌==◌, slice_index, slice_index_or}
+use Rattle.std.specs.Prelude.{◌≡◌, ℕ, ◌<◌, ◌≤◌, Bool, true, T, List, length, take, replicate, Ok, Err, Result, ◌==◌, slice_index, slice_index_or}
 use Rattle.refusal.specs.declared.Refusal.{Refusal}
 use Rattle.refusal.specs.declared.Refusal.TheVariants.{NoLevelWord}
 use Rattle.field.specs.Meaning as fields

@@ -4,9 +4,7 @@ use Rattle.std.specs.Borrow.{Bor}
 use Rattle.std.specs.Option.{option_map}
 use Rattle.std.specs.Str.{bytes_eq}
 use Rattle.script.specs.declared.commands.Command.{Command}
-use Rattle.script.specs.declared.commands.Command.TheVariants as Command
 use Rattle.script.specs.declared.commands.Name.{Name}
-use Rattle.script.specs.declared.commands.Name.TheVariants as Name
 use Rattle.script.specs.Arguments.{first_and_rest, none, one, symbols, two, whole}
 
 -- a name with its spelling

@@ -1,7 +1,6 @@
 -- What a line of a script says. Assumes nothing.
 use Rattle.std.specs.Prelude.{ℕ, Bool, false, cond, List, [], ◌∷◌, Some, None, Option, ◌==◌}
 use Rattle.script.specs.declared.lines.Line.{Line}
-use Rattle.script.specs.declared.lines.Line.TheVariants as Line
 use Rattle.script.specs.Words.{words}
 use Rattle.script.specs.Numbers.{numbers}
 use Rattle.script.specs.Commands.{Asked, called, spelled, view}

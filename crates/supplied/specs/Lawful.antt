@@ -1,14 +1,14 @@
 -- The chain of triples keeps the laws, by computed tests. Assumes nothing.
-use Rattle.std.specs.Prelude.{◌≡◌, ℕ, suc, ◌+◌, ◌-◌, ◌*◌, ◌<◌, ◌≤◌, Bool, true, false, ◌||◌, T, List, [], ◌∷◌, length, take, drop, ◌==◌, ◌≢◌, nat_eq, nat_le, slice_index, slice_set, refl}
+use Rattle.std.specs.Prelude.{◌≡◌, ℕ, ◌+◌, ◌-◌, ◌*◌, ◌<◌, ◌≤◌, Bool, true, false, ◌||◌, T, List, [], ◌∷◌, length, take, drop, ◌==◌, ◌≢◌, nat_eq, nat_le, slice_index, slice_set, refl}
 use Rattle.std.proofs.Common.{sym, ap, ap₂, subst, ◌∙◌, arith, eqb→eq, leb→le, lit≤, lt→ltb}
 use Rattle.std.proofs.Math.Decide.{ℕ_discrete}
 use Rattle.field.specs.Places.{distance}
 use Rattle.field.specs.Words.{symbols, added, scaled}
 use Rattle.field.proofs.Accepted.{both_hold}
 use Rattle.field.proofs.Metric.{eqb_tells, distance_zero, distance_itself}
-use Rattle.field.proofs.Tests.{each, each², each_at, each²_at}
+use Rattle.field.proofs.Tests.{each_at, each²_at}
 use Rattle.field.proofs.WordLaws.{symbol_at}
-use Rattle.chain.specs.Meaning.{Meaning, IsChain, Level, Message, OfLevel, Word}
+use Rattle.chain.specs.Meaning.{IsChain, Level, Word}
 use Rattle.supplied.specs.Quadratic.{four, product}
 use Rattle.supplied.specs.Triples.{word, triples}
 use Rattle.supplied.specs.Table.{is_field}

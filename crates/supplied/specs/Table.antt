@@ -1,9 +1,8 @@
 -- The laws of GF(4) and the rule of its table, by computed tests. Assumes nothing.
 use Rattle.std.specs.Prelude.{◌≡◌, ℕ, ◌+◌, ◌*◌, ◌<◌, List, [], ◌∷◌, nat_eq, slice_index}
-use Rattle.std.proofs.Common.{arith, eqb→eq}
-use Rattle.std.specs.Int.Bits.{bit_xor}
+use Rattle.std.proofs.Common.{eqb→eq}
 use Rattle.field.specs.Meaning.{IsField, inverse_of, opposite_of}
-use Rattle.field.proofs.Tests.{each, each², each_at, each²_at}
+use Rattle.field.proofs.Tests.{each_at, each²_at}
 use Rattle.field.proofs.Finite.{field_by_tests}
 use Rattle.supplied.specs.Quadratic.{product, four}
 

@@ -1,4 +1,4 @@
-use Rattle.std.proofs.Common.{◌≡◌, ◌/◌, Ok, Err, Result, sym, ap, ◌∙◌}
+use Rattle.std.proofs.Common.{◌/◌, Ok, ap, ◌∙◌}
 use Rattle.chain.specs.Answers.{is_level}
 use Rattle.chain.proofs.Causes.{told_radius, told_refusal}
 use Rattle.chain.proofs.Facts.{level_facts}

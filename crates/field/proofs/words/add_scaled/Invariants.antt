@@ -1,4 +1,4 @@
-use Rattle.std.proofs.Common.{◌≡◌, T, ◌++◌, length, take, drop}
+use Rattle.std.proofs.Common.{◌≡◌, T, ◌++◌, take, drop}
 use Rattle.field.specs.Words.{plus_scaled, symbols}
 use Rattle.field.proofs.words.add_scaled.Given as goal
 

@@ -1,4 +1,4 @@
-use Rattle.std.proofs.Common.{sym, refl, ap, ◌∙◌, arith}
+use Rattle.std.proofs.Common.{sym, ap, ◌∙◌}
 use Rattle.field.specs.Words.{symbols}
 use Rattle.field.proofs.WordLaws.{symbols_more, symbols_stop}
 use Rattle.std.proofs.lemmas.List.{at_drop_all}

@@ -1,4 +1,4 @@
-use Rattle.std.proofs.Common.{◌≡◌, ◌+◌, ◌<◌, length, sym, refl, ap, ◌∙◌, zero-add, arith}
+use Rattle.std.proofs.Common.{◌≡◌, ◌<◌, length, ◌∙◌, zero-add, arith}
 use Rattle.field.proofs.WordLaws.{distance_same, distance_more, distance_end}
 use Rattle.field.proofs.words.distance.Goals as goal
 use Rattle.field.proofs.words.distance.Goals.{then-a-i, else-a-i}

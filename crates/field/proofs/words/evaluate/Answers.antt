@@ -1,4 +1,4 @@
-use Rattle.std.proofs.Common.{◌≡◌, ◌<◌, T, length, drop, sym, refl, ap, ◌∙◌, subst, arith, lt→ltb}
+use Rattle.std.proofs.Common.{◌≡◌, ◌<◌, T, drop, sym, ap, ◌∙◌, subst, arith, lt→ltb}
 use Rattle.field.specs.Words.{value_at}
 use Rattle.field.proofs.Accepted.{passed, both_hold}
 use Rattle.field.proofs.WordLaws.{value_back}

@@ -1,4 +1,4 @@
-use Rattle.std.proofs.Common.{◌≡◌, T, length, drop, sym, refl, ap, ◌∙◌, subst, arith}
+use Rattle.std.proofs.Common.{◌≡◌, T, drop, sym, ap, ◌∙◌, subst, arith}
 use Rattle.field.specs.Words.{total}
 use Rattle.field.proofs.Accepted.{passed}
 use Rattle.field.proofs.WordLaws.{total_back}

@@ -1,4 +1,4 @@
-use Rattle.std.proofs.Common.{◌≡◌, ℕ, eqb, sym, ap, ◌∙◌, arith}
+use Rattle.std.proofs.Common.{◌≡◌, ℕ, eqb, ap, arith}
 use Rattle.plain.specs.Kinds.{ones}
 use Rattle.plain.proofs.Shapes.{ones_told}
 use Rattle.plain.proofs.kinds.adds_to_zero.Goals as goal

@@ -1,8 +1,7 @@
-use Rattle.std.proofs.Common.{◌≡◌, T, sym, refl, ap, ◌∙◌, subst, rules}
+use Rattle.std.proofs.Common.{◌≡◌, T, sym, refl, subst, rules}
 use denote.Enum.Bare.{same_true, same_false}
 use Rattle.plain.specs.Words.{Near}
 use Rattle.plain.specs.contracts.words.Kind.{the_type}
-use Rattle.plain.specs.declared.words.Kind.{Kind}
 use Rattle.plain.specs.declared.words.Kind.TheVariants.{Repeated}
 use Rattle.plain.proofs.Blocks.{none_repeated, elected, fitting, unfitting}
 use Rattle.plain.proofs.words.correct_block.Goals as goal

@@ -1,4 +1,4 @@
-use Rattle.std.proofs.Common.{◌≡◌, ℕ, ◌<◌, ◌≤◌, length, get_or}
+use Rattle.std.proofs.Common.{ℕ, ◌<◌, ◌≤◌, length, get_or}
 use Rattle.chain.specs.Meaning.{radius}
 use Rattle.plain.specs.Words.{others}
 use Rattle.plain.proofs.words.majority.Given as goal

@@ -1,4 +1,4 @@
-use Rattle.std.proofs.Common.{◌≡◌, ℕ, List, ◌∷◌, ◌++◌, Some, None, string_bytes, codes, decimal, sym, ap, ◌∙◌}
+use Rattle.std.proofs.Common.{◌≡◌, ◌∷◌, ◌++◌, Some, None, string_bytes, codes, decimal, sym, ap, ◌∙◌}
 use Rattle.code.specs.Held.{meant}
 use Rattle.code.specs.Numbers.{code_flaw}
 use Rattle.printing.specs.Sheets.{code_lines_by}

@@ -1,4 +1,4 @@
-use Rattle.std.proofs.Common.{◌≡◌, ◌≤◌, length, take, replicate, arith, lit≤}
+use Rattle.std.proofs.Common.{◌≡◌, length, take, replicate, arith, lit≤}
 use Rattle.std.proofs.lemmas.List.{length-take-le}
 use Rattle.reed_solomon.proofs.Decoding.{zeros_symbols}
 use Rattle.reed_solomon.proofs.decoder.read_message.Goals as goal

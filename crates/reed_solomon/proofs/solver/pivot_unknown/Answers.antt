@@ -1,5 +1,4 @@
 use Rattle.std.proofs.Common.{◌<◌, length, get_or, sym, ap, ◌∙◌, subst, arith}
-use Rattle.algebra.specs.Vectors.{dot}
 use Rattle.field.specs.Meaning.{opposite_of}
 use Rattle.std.proofs.ByRecursion.{All-get_or}
 use Rattle.reed_solomon.proofs.Solving.{unknown_is, dot_symbol}

@@ -1,4 +1,4 @@
-use Rattle.std.proofs.Common.{◌≡◌, ◌≤◌, sym, ap, ◌∙◌, subst, arith, below_more}
+use Rattle.std.proofs.Common.{◌≡◌, ◌≤◌, ap, ◌∙◌, arith, below_more}
 use Rattle.field.specs.Places.{distance}
 use Rattle.supplied.specs.Triples.{word}
 use Rattle.supplied.specs.Lawful.{table_rule}

@@ -1,4 +1,4 @@
-use Rattle.std.proofs.Common.{◌≡◌, ◌<◌, cond, T, [], length, take, sym, ap, ◌∙◌, arith, le→leb, length-set, take_all}
+use Rattle.std.proofs.Common.{◌≡◌, ◌<◌, cond, [], length, take, sym, ap, ◌∙◌, arith, le→leb, length-set, take_all}
 use Rattle.field.proofs.Tests.{true_is}
 use Rattle.chain.proofs.HeldNumbers.{held_more}
 use Rattle.chain.proofs.numbers.LevelNumbers.of.Goals as goal

@@ -1,4 +1,4 @@
-use Rattle.std.proofs.Common.{◌≡◌, T, sym, ap, ◌∙◌, subst}
+use Rattle.std.proofs.Common.{T, sym, subst}
 use Rattle.chain.specs.Held.{held}
 use Rattle.plain.proofs.Answering.{correct_refused, corrected}
 use Rattle.plain.proofs.levels.PlainChain.correct.Goals as goal

@@ -1,4 +1,4 @@
-use Rattle.std.proofs.Common.{◌≡◌, ◌≤◌, T, [], ◌∷◌, get_or, Ok, sym, refl, ap, ◌∙◌, subst, arith}
+use Rattle.std.proofs.Common.{T, [], ◌∷◌, get_or, Ok, sym, refl, subst}
 use Rattle.chain.specs.Calls.{Corrects}
 use Rattle.chain.proofs.Causes.{correct_none, correct_done}
 use Rattle.chain.proofs.Facts.{message_near_is, message_near_none}

@@ -1,4 +1,4 @@
-use Rattle.std.proofs.Common.{◌≡◌, ◌≤◌, T, eqb, [], ◌∷◌, length, get_or, set, Ok, sym, refl, ap, ◌∙◌, subst, arith}
+use Rattle.std.proofs.Common.{◌≡◌, T, eqb, [], ◌∷◌, get_or, Ok, sym, refl, ap, ◌∙◌, subst, arith}
 use Rattle.field.specs.Places.{distance}
 use Rattle.field.proofs.Metric.{eqb_tells, distance_zero, distance_itself}
 use Rattle.chain.specs.Calls.{Strips}
