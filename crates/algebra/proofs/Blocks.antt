@@ -1,7 +1,7 @@
 -- How many places of all blocks are not 0, for words combined by a matrix that is non-singular by columns. Assumes nothing.
 use Rattle.std.proofs.Common.{◌≡◌, ℕ, zero, suc, ◌+◌, ◌-◌, ◌*◌, ◌<◌, ◌≤◌, Bool, true, false, not, T, ◌≢◌, List, [], ◌∷◌, ◌++◌, map, length, get_or, sym, refl, ap, ◌∙◌, subst, suc-mul, zero-mul, arith, length-append}
 use lib.ListN.{length-map}
-use Rattle.std.specs.List.{AllByRecursion as All}
+use Rattle.std.specs.List.{AllByRecursion}
 use Rattle.std.proofs.lemmas.List.{map-append}
 use Rattle.algebra.specs.FieldOn.{Ops, FieldOn}
 use Rattle.algebra.specs.Vectors.{dot, combination, Zeros}
@@ -92,7 +92,7 @@ module _ {K : Type 0} (F : FieldOn K) where
   zeros_at (x ∷ v) zero (z, zs) = z
   zeros_at (x ∷ v) (suc i) (z, zs) = zeros_at v i zs
 
-  zero_words_at : (zs : List (List K)) (i : ℕ) → All (Zeros A) zs → Zeros A (map (λ v. get_or v i 𝟘) zs)
+  zero_words_at : (zs : List (List K)) (i : ℕ) → AllByRecursion (Zeros A) zs → Zeros A (map (λ v. get_or v i 𝟘) zs)
   zero_words_at [] i z = tt
   zero_words_at (v ∷ zs) i (z, ys) = (zeros_at v i z, zero_words_at zs i ys)
 
@@ -100,9 +100,9 @@ module _ {K : Type 0} (F : FieldOn K) where
   last_not_zero [] c n (z, zs) = n z
   last_not_zero (d ∷ cs) c n (z, zs) = last_not_zero cs c n zs
 
-  module _ {I : Type 0} (s : ℕ) (column : I → List K) (In : I → Type 0) (good : Nonsingular A s column In) (js : List I) (d : Different js) (ins : All In js) where
+  module _ {I : Type 0} (s : ℕ) (column : I → List K) (In : I → Type 0) (good : Nonsingular A s column In) (js : List I) (d : Different js) (ins : AllByRecursion In js) where
     -- one place of the block of column j, if the words from the last but zs on are zero
-    block_place : (us : List (List K)) (w : List K) (zs : List (List K)) → All (Zeros A) zs → (i : ℕ) (j : I) → get_or (combination A (column j) (us ++ (w ∷ zs))) i 𝟘 ≡ dot A (map (λ v. get_or v i 𝟘) us ++ (get_or w i 𝟘 ∷ [])) (column j)
+    block_place : (us : List (List K)) (w : List K) (zs : List (List K)) → AllByRecursion (Zeros A) zs → (i : ℕ) (j : I) → get_or (combination A (column j) (us ++ (w ∷ zs))) i 𝟘 ≡ dot A (map (λ v. get_or v i 𝟘) us ++ (get_or w i 𝟘 ∷ [])) (column j)
     block_place us w zs z i j =
         getD_combination F (column j) (us ++ (w ∷ zs)) i
         ∙ dot_comm F (column j) (map (λ v. get_or v i 𝟘) (us ++ (w ∷ zs)))
@@ -110,7 +110,7 @@ module _ {K : Type 0} (F : FieldOn K) where
         ∙ dot_until (map (λ v. get_or v i 𝟘) us) (get_or w i 𝟘) (map (λ v. get_or v i 𝟘) zs) (column j) (zero_words_at zs i z)
 
     -- at a place where w is not 0, few blocks are 0
-    place_count : (us : List (List K)) (w : List K) (zs : List (List K)) → length us < s → All (Zeros A) zs → (i : ℕ) → T (not (is_zero F (get_or w i 𝟘))) → length js - length us ≤ passing (λ j. not (is_zero F (get_or (combination A (column j) (us ++ (w ∷ zs))) i 𝟘))) js
+    place_count : (us : List (List K)) (w : List K) (zs : List (List K)) → length us < s → AllByRecursion (Zeros A) zs → (i : ℕ) → T (not (is_zero F (get_or w i 𝟘))) → length js - length us ≤ passing (λ j. not (is_zero F (get_or (combination A (column j) (us ++ (w ∷ zs))) i 𝟘))) js
     place_count us w zs l z i t =
         let cs = map (λ v. get_or v i 𝟘) us ++ (get_or w i 𝟘 ∷ []) in
         let a = length-append (map (λ v. get_or v i 𝟘) us) (get_or w i 𝟘 ∷ []) in
@@ -123,7 +123,7 @@ module _ {K : Type 0} (F : FieldOn K) where
         omega arith
 
     -- Words us, w and then zero words, combined by the columns: at each place where w is not 0 at most r − 1 of l blocks are 0, with r the place of w.
-    pub blocks_weight : (n : ℕ) (us : List (List K)) (w : List K) (zs : List (List K)) → length us < s → All (Zeros A) zs → All (λ v. length v ≤ n) (us ++ (w ∷ zs)) → length w ≤ n → weight F w * (length js - length us) ≤ sum_of (λ j. weight F (combination A (column j) (us ++ (w ∷ zs)))) js
+    pub blocks_weight : (n : ℕ) (us : List (List K)) (w : List K) (zs : List (List K)) → length us < s → AllByRecursion (Zeros A) zs → AllByRecursion (λ v. length v ≤ n) (us ++ (w ∷ zs)) → length w ≤ n → weight F w * (length js - length us) ≤ sum_of (λ j. weight F (combination A (column j) (us ++ (w ∷ zs)))) js
     blocks_weight n us w zs l z fits fit =
         let left = weight_places w n fit in
         let swap = counted_twice (λ j i. not (is_zero F (get_or (combination A (column j) (us ++ (w ∷ zs))) i 𝟘))) js (range 0 n) in

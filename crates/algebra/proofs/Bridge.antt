@@ -3,7 +3,7 @@ use Rattle.std.proofs.Common.{◌≡◌, ℕ, zero, suc, ◌+◌, ◌<◌, ◌�
 use mathlib.Core.HLevel.{Σ_prop_path, Σ_prop_discrete}
 use native.Mathlib.Bridge.{le_prop}
 use native.Mathlib.Decide.{dec_lt, ℕ_discrete}
-use Rattle.std.specs.List.{AllByRecursion as All}
+use Rattle.std.specs.List.{AllByRecursion}
 use Rattle.field.specs.Meaning.{Meaning, IsField, first, opposite_of, inverse_of}
 use Rattle.field.proofs.Unique.{opposite_exact, inverse_exact}
 use Rattle.algebra.specs.FieldOn.{Ops, FieldOn}
@@ -85,7 +85,7 @@ module _ (F : Meaning) (laws : IsField F) where
     same? = below-same?;
   }
 
-  pub vals_tos : (xs : List ℕ) → All (λ x. x < F.q) xs → map val (map to xs) ≡ xs
+  pub vals_tos : (xs : List ℕ) → AllByRecursion (λ x. x < F.q) xs → map val (map to xs) ≡ xs
   vals_tos [] h = refl
   vals_tos (x ∷ xs) (h, hs) = λ i. val_to x h i ∷ vals_tos xs hs i
 
@@ -93,7 +93,7 @@ module _ (F : Meaning) (laws : IsField F) where
   tos_vals [] = refl
   tos_vals (x ∷ xs) = λ i. to_val x i ∷ tos_vals xs i
 
-  pub vals_below : (xs : List (Below F.q)) → All (λ x. x < F.q) (map val xs)
+  pub vals_below : (xs : List (Below F.q)) → AllByRecursion (λ x. x < F.q) (map val xs)
   vals_below [] = tt
   vals_below (x ∷ xs) = (x.1, vals_below xs)
 

@@ -1,6 +1,6 @@
 -- A map that respects arithmetic carries every definition across; so from symbols to their numbers. Assumes nothing.
 use Rattle.std.proofs.Common.{◌≡◌, eqb, ◌≢◌, List, [], ◌∷◌, map, refl, ap, ◌∙◌}
-use Rattle.std.specs.List.{AllZip, AllByRecursion as All}
+use Rattle.std.specs.List.{AllZip, AllByRecursion}
 use Rattle.field.specs.Meaning.{Meaning, IsField}
 use Rattle.algebra.specs.FieldOn.{Ops}
 use Rattle.algebra.specs.Symbols.{numbers, Below, val}
@@ -103,7 +103,7 @@ pub different_map : {X Y : Type 0} (h : X → Y) → ((a b : X) → h a ≡ h b 
 different_map h injective [] d = tt
 different_map h injective (x ∷ xs) (n, d) = (go xs n, different_map h injective xs d)
   where
-    go : (ys : List _) → All (λ y. x ≢ y) ys → All (λ z. h x ≢ z) (map h ys)
+    go : (ys : List _) → AllByRecursion (λ y. x ≢ y) ys → AllByRecursion (λ z. h x ≢ z) (map h ys)
     go [] k = tt
     go (y ∷ ys) (k, ks) = ((λ e. k (injective x y e)), go ys ks)
 
@@ -125,7 +125,7 @@ pub different_from_map : {X Y : Type 0} (h : X → Y) (xs : List X) → Differen
 different_from_map h [] d = tt
 different_from_map h (x ∷ xs) (n, d) = (go xs n, different_from_map h xs d)
   where
-    go : (ys : List _) → All (λ z. h x ≢ z) (map h ys) → All (λ y. x ≢ y) ys
+    go : (ys : List _) → AllByRecursion (λ z. h x ≢ z) (map h ys) → AllByRecursion (λ y. x ≢ y) ys
     go [] k = tt
     go (y ∷ ys) (k, ks) = ((λ e. k (ap h e)), go ys ks)
 

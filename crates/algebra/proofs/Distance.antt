@@ -1,6 +1,6 @@
 -- How many elements pass a test, and the distance of words as the weight of their difference. Assumes nothing.
 use Rattle.std.proofs.Common.{◌≡◌, ℕ, suc, ◌+◌, ◌≤◌, Bool, true, false, not, T, List, [], ◌∷◌, ◌++◌, length, refl, ap, ◌∙◌, arith}
-use Rattle.std.specs.List.{AllByRecursion as All}
+use Rattle.std.specs.List.{AllByRecursion}
 use Rattle.algebra.specs.FieldOn.{FieldOn}
 use Rattle.algebra.specs.Vectors.{minus}
 use Rattle.field.specs.Places.{unless, Tells}
@@ -62,7 +62,7 @@ module _ {X : Type 0} where
   failing_append test (x ∷ xs) ys = unless_add (test x) _ _ _ (failing_append test xs ys)
 
   -- none fails: all pass
-  pub failing_none : (test : X → Bool) (xs : List X) → failing test xs ≡ 0 → All (λ x. T (test x)) xs
+  pub failing_none : (test : X → Bool) (xs : List X) → failing test xs ≡ 0 → AllByRecursion (λ x. T (test x)) xs
   failing_none test [] e = tt
   failing_none test (x ∷ xs) e =
       let s = none_step (test x) (failing test xs) e in

@@ -2,7 +2,7 @@
 use Rattle.std.proofs.Common.{◌≡◌, ℕ, zero, suc, ◌+◌, ◌≤◌, Bool, true, false, not, ◌&&◌, T, eqb, ◌≢◌, ◌⊎◌, ◌↔◌, List, [], ◌∷◌, map, length, sym, refl, ap, ◌∙◌, subst, inl, inr, arith, eqb→eq, T_not}
 use lib.Dec.{not_T}
 use lib.ListN.{length-map}
-use Rattle.std.specs.List.{AllByRecursion as All}
+use Rattle.std.specs.List.{AllByRecursion}
 use Rattle.field.specs.Meaning.{Meaning, IsField}
 use Rattle.algebra.specs.FieldOn.{Ops, FieldOn}
 use Rattle.algebra.specs.Symbols.{numbers, Below, val}
@@ -139,11 +139,11 @@ module _ (F : Meaning) (laws : IsField F) where
       ∙ tested_val same s (reduced G.ops column p) (without same p js)))
       js
 
-  zero_dots : (cs : List (Below F.q)) (column : ℕ → List (Below F.q)) (js : List ℕ) → All (λ j. dot (numbers F) (map val cs) (map val (column j)) ≡ 0) js → All (λ j. dot G.ops cs (column j) ≡ G.ops.zero) js
+  zero_dots : (cs : List (Below F.q)) (column : ℕ → List (Below F.q)) (js : List ℕ) → AllByRecursion (λ j. dot (numbers F) (map val cs) (map val (column j)) ≡ 0) js → AllByRecursion (λ j. dot G.ops cs (column j) ≡ G.ops.zero) js
   zero_dots cs column [] h = tt
   zero_dots cs column (j ∷ js) (h, hs) = (val_injective (dot_map G.ops (numbers F) val (val_respects F laws) cs (column j) ∙ h), zero_dots cs column js hs)
 
-  dots_zero : (cs : List (Below F.q)) (column : ℕ → List (Below F.q)) (js : List ℕ) → All (λ j. dot G.ops cs (column j) ≡ G.ops.zero) js → All (λ j. dot (numbers F) (map val cs) (map val (column j)) ≡ 0) js
+  dots_zero : (cs : List (Below F.q)) (column : ℕ → List (Below F.q)) (js : List ℕ) → AllByRecursion (λ j. dot G.ops cs (column j) ≡ G.ops.zero) js → AllByRecursion (λ j. dot (numbers F) (map val cs) (map val (column j)) ≡ 0) js
   dots_zero cs column [] h = tt
   dots_zero cs column (j ∷ js) (h, hs) =
       (sym (dot_map G.ops (numbers F) val (val_respects F laws) cs (column j)) ∙ ap (λ (x : Below F.q). val x) h, dots_zero cs column js hs)
@@ -155,7 +155,7 @@ module _ (F : Meaning) (laws : IsField F) where
       forth : Nonsingular G.ops s column In → NonsingularNumbers F s (λ j. map val (column j)) In
       forth h js cs l e d ins sy z =
           from_symbols F laws
-          (λ ds. length ds ≤ s → length js ≡ length ds → All (λ j. dot (numbers F) ds (map val (column j)) ≡ 0) js → Zeros (numbers F) ds)
+          (λ ds. length ds ≤ s → length js ≡ length ds → AllByRecursion (λ j. dot (numbers F) ds (map val (column j)) ≡ 0) js → Zeros (numbers F) ds)
           (λ ds m k y. let a = length-map ds (val {q = F.q}) in zeros_val F laws ds (h js ds (omega arith) (omega arith) d ins (zero_dots ds column js y)))
           cs sy l e z
 
@@ -180,7 +180,7 @@ module _ (F : Meaning) (laws : IsField F) where
   passing_same f g h [] = refl
   passing_same f g h (j ∷ js) = ap (λ b. given b (passing f js)) (h j) ∙ ap (given (g j)) (passing_same f g h js)
 
-  all_among : (js ks : List ℕ) → ((j : ℕ) → Among ks j → Among js j) → All (Among js) ks
+  all_among : (js ks : List ℕ) → ((j : ℕ) → Among ks j → Among js j) → AllByRecursion (Among js) ks
   all_among js [] f = tt
   all_among js (k ∷ ks) f = (f k (inl refl), all_among js ks (λ j m. f j (inr m)))
 

@@ -1,7 +1,7 @@
 -- Words of values of a polynomial: how often they are 0, and how far apart two of them are. Assumes nothing.
 use Rattle.std.proofs.Common.{◌≡◌, ℕ, suc, ◌+◌, ◌<◌, ◌≤◌, Bool, true, false, T, ◌≢◌, List, [], ◌∷◌, length, refl, ap, ◌∙◌, arith}
 use native.Mathlib.Decide.{dec_le}
-use Rattle.std.specs.List.{AllZip, AllByRecursion as All}
+use Rattle.std.specs.List.{AllZip, AllByRecursion}
 use Rattle.algebra.specs.FieldOn.{Ops, FieldOn}
 use Rattle.algebra.specs.Vectors.{Zeros}
 use Rattle.algebra.specs.Polynomials.{Different, value, values}
@@ -20,11 +20,11 @@ chosen test [] ys = []
 chosen test (x ∷ xs) [] = []
 chosen test (x ∷ xs) (y ∷ ys) = keep (test x y) x (chosen test xs ys)
 
-all_keep : {X : Type 0} (P : X → Type 0) (b : Bool) (x : X) (xs : List X) → (T b → P x) → All P xs → All P (keep b x xs)
+all_keep : {X : Type 0} (P : X → Type 0) (b : Bool) (x : X) (xs : List X) → (T b → P x) → AllByRecursion P xs → AllByRecursion P (keep b x xs)
 all_keep P true x xs p ps = (p tt, ps)
 all_keep P false x xs p ps = ps
 
-different_keep : {X : Type 0} (b : Bool) (x : X) (xs : List X) → All (λ y. x ≢ y) xs → Different xs → Different (keep b x xs)
+different_keep : {X : Type 0} (b : Bool) (x : X) (xs : List X) → AllByRecursion (λ y. x ≢ y) xs → Different xs → Different (keep b x xs)
 different_keep true x xs n d = (n, d)
 different_keep false x xs n d = d
 
@@ -32,7 +32,7 @@ length_keep : {X : Type 0} (b : Bool) (x : X) (xs : List X) → length (keep b x
 length_keep true x xs = refl
 length_keep false x xs = refl
 
-pub chosen_all : {X Y : Type 0} (P : X → Type 0) (test : X → Y → Bool) (xs : List X) (ys : List Y) → All P xs → All P (chosen test xs ys)
+pub chosen_all : {X Y : Type 0} (P : X → Type 0) (test : X → Y → Bool) (xs : List X) (ys : List Y) → AllByRecursion P xs → AllByRecursion P (chosen test xs ys)
 chosen_all P test [] ys p = tt
 chosen_all P test (x ∷ xs) [] p = tt
 chosen_all P test (x ∷ xs) (y ∷ ys) (p, ps) = all_keep P (test x y) x _ (λ t. p) (chosen_all P test xs ys ps)
@@ -44,7 +44,7 @@ chosen_different test (x ∷ xs) (y ∷ ys) (n, d) =
     different_keep (test x y) x _ (chosen_all (λ z. x ≢ z) test xs ys n) (chosen_different test xs ys d)
 
 -- what follows from the test holds of the chosen
-pub chosen_each : {X : Type 0} (P : X → Type 0) (test : X → X → Bool) (xs ys : List X) → AllZip (λ x y. T (test x y) → P x) xs ys → All P (chosen test xs ys)
+pub chosen_each : {X : Type 0} (P : X → Type 0) (test : X → X → Bool) (xs ys : List X) → AllZip (λ x y. T (test x y) → P x) xs ys → AllByRecursion P (chosen test xs ys)
 chosen_each P test [] [] e = tt
 chosen_each P test [] (y ∷ ys) e = tt
 chosen_each P test (x ∷ xs) [] e = tt

@@ -1,13 +1,13 @@
 -- What holds of each element of a list, and of each pair of elements of two lists. Assumes nothing.
 use Rattle.std.proofs.Common.{List, [], ◌∷◌}
-use Rattle.std.specs.List.{AllZip, AllByRecursion as All}
+use Rattle.std.specs.List.{AllZip, AllByRecursion}
 
 module _ {X : Type 0} where
-  pub all_both : (P Q R : X → Type 0) → ((x : X) → P x → Q x → R x) → (xs : List X) → All P xs → All Q xs → All R xs
+  pub all_both : (P Q R : X → Type 0) → ((x : X) → P x → Q x → R x) → (xs : List X) → AllByRecursion P xs → AllByRecursion Q xs → AllByRecursion R xs
   all_both P Q R f [] p q = tt
   all_both P Q R f (x ∷ xs) (p, ps) (q, qs) = (f x p q, all_both P Q R f xs ps qs)
 
-  pub all_each : (P Q : X → Type 0) → ((x : X) → P x → Q x) → (xs : List X) → All P xs → All Q xs
+  pub all_each : (P Q : X → Type 0) → ((x : X) → P x → Q x) → (xs : List X) → AllByRecursion P xs → AllByRecursion Q xs
   all_each P Q f [] p = tt
   all_each P Q f (x ∷ xs) (p, ps) = (f x p, all_each P Q f xs ps)
 
@@ -24,13 +24,13 @@ each_both P Q R f [] (y ∷ ys) p q = p
 each_both P Q R f (x ∷ xs) [] p q = p
 each_both P Q R f (x ∷ xs) (y ∷ ys) (p, ps) (q, qs) = (f x y p q, each_both P Q R f xs ys ps qs)
 
-pub each_of_first : {X : Type 0} (P : X → Type 0) (R : X → X → Type 0) → (xs ys : List X) → AllZip R xs ys → ((x y : X) → R x y → P x) → All P xs
+pub each_of_first : {X : Type 0} (P : X → Type 0) (R : X → X → Type 0) → (xs ys : List X) → AllZip R xs ys → ((x y : X) → R x y → P x) → AllByRecursion P xs
 each_of_first P R [] [] e f = tt
 each_of_first P R [] (y ∷ ys) e f = tt
 each_of_first P R (x ∷ xs) [] e f = absurd e
 each_of_first P R (x ∷ xs) (y ∷ ys) (e, es) f = (f x y e, each_of_first P R xs ys es f)
 
 -- a fact of all the first, given of each pair with itself
-pub each_self : {X : Type 0} (P : X → X → Type 0) (xs : List X) → All (λ x. P x x) xs → AllZip P xs xs
+pub each_self : {X : Type 0} (P : X → X → Type 0) (xs : List X) → AllByRecursion (λ x. P x x) xs → AllZip P xs xs
 each_self P [] h = tt
 each_self P (x ∷ xs) (h, hs) = (h, each_self P xs hs)

@@ -1,7 +1,7 @@
 -- Matrices that are non-singular by columns: elimination keeps the property, and tests it. Assumes nothing.
 use Rattle.std.proofs.Common.{◌≡◌, ℕ, zero, suc, ◌<◌, ◌≤◌, T, ◌≢◌, List, [], ◌∷◌, map, length, get_or, take, sym, refl, ap, ◌∙◌, arith, length-take}
 use native.Mathlib.Decide.{dec_le}
-use Rattle.std.specs.List.{AllZip, AllByRecursion as All}
+use Rattle.std.specs.List.{AllZip, AllByRecursion}
 use Rattle.std.proofs.ByRecursion.{All-take}
 use Rattle.algebra.specs.FieldOn.{Ops, FieldOn}
 use Rattle.algebra.specs.Vectors.{plus, times, dot, combination, Zeros}
@@ -135,13 +135,13 @@ module _ {K : Type 0} (F : FieldOn K) where
     nonsingular_fewer s r column In On l f h js cs m e d ins z = h js cs (omega arith) e d (all_each On In f js ins) z
 
     -- 0 in at least as many columns as there are coefficients
-    pub nonsingular_many : (s : ℕ) (column : I → List K) (In : I → Type 0) → Nonsingular A s column In → (js : List I) (cs : List K) → length cs ≤ s → length cs ≤ length js → Different js → All In js → All (λ j. dot A cs (column j) ≡ 𝟘) js → Zeros A cs
+    pub nonsingular_many : (s : ℕ) (column : I → List K) (In : I → Type 0) → Nonsingular A s column In → (js : List I) (cs : List K) → length cs ≤ s → length cs ≤ length js → Different js → AllByRecursion In js → AllByRecursion (λ j. dot A cs (column j) ≡ 𝟘) js → Zeros A cs
     nonsingular_many s column In h js cs l m d ins z =
         let k = length-take (length cs) js in
         h (take (length cs) js) cs l (omega arith) (different_take (length cs) js d) (All-take In (length cs) js ins) (All-take (λ j. dot A cs (column j) ≡ 𝟘) (length cs) js z)
 
     -- A combination of the first r rows, not all coefficients 0, is 0 in fewer than r columns.
-    pub few_zero_columns : (s : ℕ) (column : I → List K) (In : I → Type 0) → Nonsingular A s column In → (js : List I) (cs : List K) → length cs ≤ s → Different js → All In js → (Zeros A cs → ⊥) → passing (λ j. is_zero F (dot A cs (column j))) js < length cs
+    pub few_zero_columns : (s : ℕ) (column : I → List K) (In : I → Type 0) → Nonsingular A s column In → (js : List I) (cs : List K) → length cs ≤ s → Different js → AllByRecursion In js → (Zeros A cs → ⊥) → passing (λ j. is_zero F (dot A cs (column j))) js < length cs
     few_zero_columns s column In h js cs l d ins n = go (dec_le (length cs) (passing (λ j. is_zero F (dot A cs (column j))) js))
       where
         there : (ks : List I) → AllZip (λ j k. T (is_zero F (dot A cs (column j))) → dot A cs (column j) ≡ 𝟘) ks ks

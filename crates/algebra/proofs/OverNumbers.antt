@@ -1,7 +1,7 @@
 -- The theorems over numbers, from those over the field on the symbols. Assumes nothing.
 use Rattle.std.proofs.Common.{◌≡◌, ℕ, ◌+◌, ◌≤◌, T, eqb, ◌≢◌, List, [], ◌∷◌, map, length, sym, ap, ◌∙◌, subst, arith}
 use lib.ListN.{length-map}
-use Rattle.std.specs.List.{AllByRecursion as All}
+use Rattle.std.specs.List.{AllByRecursion}
 use Rattle.field.specs.Meaning.{Meaning, IsField}
 use Rattle.algebra.specs.FieldOn.{FieldOn}
 use Rattle.algebra.specs.Symbols.{numbers, Symbols, Below, val}
@@ -24,11 +24,11 @@ module _ (F : Meaning) (laws : IsField F) where
   pub from_symbols : (P : List ℕ → Type 0) → ((xs : List (Below F.q)) → P (map val xs)) → (xs : List ℕ) → Symbols F xs → P xs
   from_symbols P h xs s = subst P (vals_tos F laws xs s) (h (map (to F laws) xs))
 
-  zero_values : (f points : List (Below F.q)) → All (λ x. value (numbers F) (map val f) x ≡ 0) (map val points) → All (λ x. value G.ops f x ≡ G.ops.zero) points
+  zero_values : (f points : List (Below F.q)) → AllByRecursion (λ x. value (numbers F) (map val f) x ≡ 0) (map val points) → AllByRecursion (λ x. value G.ops f x ≡ G.ops.zero) points
   zero_values f [] h = tt
   zero_values f (x ∷ points) (h, hs) = (val_injective (value_map G.ops (numbers F) val (val_respects F laws) f x ∙ h), zero_values f points hs)
 
-  roots_inside : (f points : List (Below F.q)) → Different (map val points) → length (map val f) ≤ length (map val points) → All (λ x. value (numbers F) (map val f) x ≡ 0) (map val points) → Zeros (numbers F) (map val f)
+  roots_inside : (f points : List (Below F.q)) → Different (map val points) → length (map val f) ≤ length (map val points) → AllByRecursion (λ x. value (numbers F) (map val f) x ≡ 0) (map val points) → Zeros (numbers F) (map val f)
   roots_inside f points d l h =
       let a = length-map f (val {q = F.q}) in
       let b = length-map points (val {q = F.q}) in
@@ -36,8 +36,8 @@ module _ (F : Meaning) (laws : IsField F) where
 
   pub roots_bounded : RootsBounded F
   roots_bounded f points sf sp =
-      from_symbols (λ p. Different p → length f ≤ length p → All (λ x. value (numbers F) f x ≡ 0) p → Zeros (numbers F) f)
-      (λ p. from_symbols (λ g. Different (map val p) → length g ≤ length (map val p) → All (λ x. value (numbers F) g x ≡ 0) (map val p) → Zeros (numbers F) g)
+      from_symbols (λ p. Different p → length f ≤ length p → AllByRecursion (λ x. value (numbers F) f x ≡ 0) p → Zeros (numbers F) f)
+      (λ p. from_symbols (λ g. Different (map val p) → length g ≤ length (map val p) → AllByRecursion (λ x. value (numbers F) g x ≡ 0) (map val p) → Zeros (numbers F) g)
       (λ g. roots_inside g p) f sf) points sp
 
   apart_inside : (f g points : List (Below F.q)) → Different (map val points) → length (map val f) ≡ length (map val g) → map val f ≢ map val g → length (map val points) + 1 ≤ distance (values (numbers F) (map val f) (map val points)) (values (numbers F) (map val g) (map val points)) + length (map val f)

@@ -1,6 +1,6 @@
 -- Values of sums, multiples and products of polynomials, and the bound on their zeros. Assumes nothing.
 use Rattle.std.proofs.Common.{◌≡◌, ℕ, zero, suc, ◌+◌, ◌<◌, ◌≤◌, ◌≢◌, List, [], ◌∷◌, ◌++◌, length, replicate, sym, refl, ap, ◌∙◌, arith, length-append}
-use Rattle.std.specs.List.{AllByRecursion as All}
+use Rattle.std.specs.List.{AllByRecursion}
 use Rattle.algebra.specs.FieldOn.{Ops, FieldOn}
 use Rattle.algebra.specs.Vectors.{plus, times, opposite, minus, Zeros}
 use Rattle.algebra.specs.Polynomials.{Different, value, values, convolve, monic, with_root, quotient}
@@ -127,7 +127,7 @@ module _ {K : Type 0} (F : FieldOn K) where
       (sym (zero-⊕ F _) ∙ ap (λ w. w ⊕ (x ⊕ ⊖ a) ⊙ value A (quotient A a f) x) (sym h) ∙ sym (division x a c f) ∙ e)
 
   -- A polynomial with at most as many coefficients as it has different zeros is zero.
-  pub roots : (points f : List K) → Different points → length f ≤ length points → All (λ x. value A f x ≡ 𝟘) points → Zeros A f
+  pub roots : (points f : List K) → Different points → length f ≤ length points → AllByRecursion (λ x. value A f x ≡ 𝟘) points → Zeros A f
   roots [] [] d l z = tt
   roots [] (c ∷ f) d l z = absurd (omega arith)
   roots (a ∷ points) [] d l z = tt
@@ -137,12 +137,12 @@ module _ {K : Type 0} (F : FieldOn K) where
       (all_both (λ x. a ≢ x) (λ x. value A (c ∷ f) x ≡ 𝟘) (λ x. value A (quotient A a f) x ≡ 𝟘) (root_of_quotient a c f z) points n zs)) in
       (sym (⊕-zero F c) ∙ ap (λ w. c ⊕ w) (sym (⊙-zero F a) ∙ ap (λ w. a ⊙ w) (sym (value_zeros f a rest))) ∙ z, rest)
 
-  agree_minus : (f g points : List K) → All (λ x. value A f x ≡ value A g x) points → All (λ x. value A (minus A f g) x ≡ 𝟘) points
+  agree_minus : (f g points : List K) → AllByRecursion (λ x. value A f x ≡ value A g x) points → AllByRecursion (λ x. value A (minus A f g) x ≡ 𝟘) points
   agree_minus f g [] h = tt
   agree_minus f g (x ∷ points) (h, hs) = (value_minus f g x ∙ difference_zero F h, agree_minus f g points hs)
 
   -- Two polynomials of n coefficients that agree at n different points are equal.
-  pub polynomials_equal : (points f g : List K) → Different points → length f ≡ length g → length f ≤ length points → All (λ x. value A f x ≡ value A g x) points → f ≡ g
+  pub polynomials_equal : (points f g : List K) → Different points → length f ≡ length g → length f ≤ length points → AllByRecursion (λ x. value A f x ≡ value A g x) points → f ≡ g
   polynomials_equal points f g d e l h =
       let k = length_minus F f g in
       minus_zeros F f g e (roots points (minus A f g) d (omega arith) (agree_minus f g points h))

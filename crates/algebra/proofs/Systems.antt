@@ -1,6 +1,6 @@
 -- What elimination keeps of the solutions of a linear system, and that it decides whether there is one. Assumes nothing.
 use Rattle.std.proofs.Common.{◌≡◌, ℕ, zero, suc, ◌≢◌, ◌↔◌, List, [], ◌∷◌, ◌++◌, map, length, get_or, drop, sym, refl, ap, ◌∙◌, subst, arith}
-use Rattle.std.specs.List.{AllZip, AllByRecursion as All}
+use Rattle.std.specs.List.{AllZip, AllByRecursion}
 use Rattle.std.proofs.ByRecursion.{All-map}
 use Rattle.algebra.specs.FieldOn.{Ops, FieldOn}
 use Rattle.algebra.specs.Vectors.{plus, times, dot}
@@ -10,15 +10,15 @@ use Rattle.algebra.proofs.Vectors.{plus_nil, dot_plus, dot_times, getD_plus, get
 use Rattle.algebra.proofs.Everywhere.{all_each, all_both}
 
 -- rows may stand in any order
-pub all_to_front : {X : Type 0} (P : X → Type 0) (u : List X) (p : X) (v : List X) → All P (u ++ (p ∷ v)) → P p × All P (u ++ v)
+pub all_to_front : {X : Type 0} (P : X → Type 0) (u : List X) (p : X) (v : List X) → AllByRecursion P (u ++ (p ∷ v)) → P p × AllByRecursion P (u ++ v)
 all_to_front P [] p v h = h
 all_to_front P (x ∷ u) p v (h, hs) = let k = all_to_front P u p v hs in (k.0, (h, k.1))
 
-pub all_from_front : {X : Type 0} (P : X → Type 0) (u : List X) (p : X) (v : List X) → P p → All P (u ++ v) → All P (u ++ (p ∷ v))
+pub all_from_front : {X : Type 0} (P : X → Type 0) (u : List X) (p : X) (v : List X) → P p → AllByRecursion P (u ++ v) → AllByRecursion P (u ++ (p ∷ v))
 all_from_front P [] p v h hs = (h, hs)
 all_from_front P (x ∷ u) p v h (k, ks) = (k, all_from_front P u p v h ks)
 
-pub all_unmap : {X Y : Type 0} (P : X → Type 0) (f : Y → X) (ys : List Y) → All P (map f ys) → All (λ y. P (f y)) ys
+pub all_unmap : {X Y : Type 0} (P : X → Type 0) (f : Y → X) (ys : List Y) → AllByRecursion P (map f ys) → AllByRecursion (λ y. P (f y)) ys
 all_unmap P f [] h = tt
 all_unmap P f (y ∷ ys) (h, hs) = (h, all_unmap P f ys hs)
 
@@ -52,7 +52,7 @@ module _ {K : Type 0} (A : Ops K) where
   dot_none (a ∷ r) = refl
 
   -- with no unknowns left, the right-hand sides are 0
-  pub solves_none : (rows : List (List K)) → Solves A rows [] ↔ All (λ r. lead A r ≡ A.zero) rows
+  pub solves_none : (rows : List (List K)) → Solves A rows [] ↔ AllByRecursion (λ r. lead A r ≡ A.zero) rows
   solves_none rows = (
     all_each (λ r. Meets A r []) (λ r. lead A r ≡ A.zero) (λ r h. lead_is r ∙ sym h ∙ dot_none r) rows,
     all_each (λ r. lead A r ≡ A.zero) (λ r. Meets A r []) (λ r h. dot_none r ∙ sym h ∙ lead_is r) rows,
@@ -119,7 +119,7 @@ module _ {K : Type 0} (F : FieldOn K) where
     (λ h. (meets_cons r x xs).1 (zero_first (lead A r) x (dot A (rest A r) xs) e ∙ h)),
   )
 
-  pub solves_zero_column : (rows : List (List K)) (x : K) (xs : List K) → All (λ r. lead A r ≡ 𝟘) rows → Solves A rows (x ∷ xs) ↔ Solves A (map (rest A) rows) xs
+  pub solves_zero_column : (rows : List (List K)) (x : K) (xs : List K) → AllByRecursion (λ r. lead A r ≡ 𝟘) rows → Solves A rows (x ∷ xs) ↔ Solves A (map (rest A) rows) xs
   solves_zero_column rows x xs z = (
     (λ h. All-map (λ r. Meets A r xs) (rest A) rows (all_both (λ r. lead A r ≡ 𝟘) (λ r. Meets A r (x ∷ xs)) (λ r. Meets A (rest A r) xs) (λ r e m. (meets_zero_lead r x xs e).0 m) rows z h)),
     (λ h. all_both (λ r. lead A r ≡ 𝟘) (λ r. Meets A (rest A r) xs) (λ r. Meets A r (x ∷ xs)) (λ r e m. (meets_zero_lead r x xs e).1 m) rows z (all_unmap (λ r. Meets A r xs) (rest A) rows h)),
@@ -179,15 +179,15 @@ module _ {K : Type 0} (F : FieldOn K) where
   each_cleared p [] n = tt
   each_cleared p (r ∷ rows) n = (cleared_is p r n, each_cleared p rows n)
 
-  pub solvable_none : (rows : List (List K)) → Solvable A 0 rows ↔ All (λ r. lead A r ≡ 𝟘) rows
+  pub solvable_none : (rows : List (List K)) → Solvable A 0 rows ↔ AllByRecursion (λ r. lead A r ≡ 𝟘) rows
   solvable_none rows = ((λ s. go s.0 s.1 s.2), (λ h. ([], refl, (solves_none A rows).1 h)))
     where
-      go : (xs : List K) → length xs ≡ 0 → Solves A rows xs → All (λ r. lead A r ≡ 𝟘) rows
+      go : (xs : List K) → length xs ≡ 0 → Solves A rows xs → AllByRecursion (λ r. lead A r ≡ 𝟘) rows
       go [] e h = (solves_none A rows).0 h
       go (x ∷ xs) e h = absurd (omega arith)
 
   -- a column of zeros: the unknown may be 0
-  pub solvable_zero_column : (n : ℕ) (rows : List (List K)) → All (λ r. lead A r ≡ 𝟘) rows → Solvable A (suc n) rows ↔ Solvable A n (map (rest A) rows)
+  pub solvable_zero_column : (n : ℕ) (rows : List (List K)) → AllByRecursion (λ r. lead A r ≡ 𝟘) rows → Solvable A (suc n) rows ↔ Solvable A n (map (rest A) rows)
   solvable_zero_column n rows z = (
     (λ s. go s.0 s.1 s.2),
     (λ s. (𝟘 ∷ s.0, ap suc s.1, (solves_zero_column rows 𝟘 s.0 z).1 s.2)),
@@ -210,7 +210,7 @@ module _ {K : Type 0} (F : FieldOn K) where
 
   -- a row with a first entry that is not 0, if there is one
   pub data Search (rows : List (List K)) : Type 0 where
-    none : All (λ r. lead A r ≡ 𝟘) rows → Search rows
+    none : AllByRecursion (λ r. lead A r ≡ 𝟘) rows → Search rows
     found : (u : List (List K)) (p : List K) (v : List (List K)) → lead A p ≢ 𝟘 → rows ≡ u ++ (p ∷ v) → Search rows
 
   pub find_pivot : (rows : List (List K)) → Search rows
@@ -228,7 +228,7 @@ module _ {K : Type 0} (F : FieldOn K) where
     where
       go : Search rows → Dec (Solvable A 0 rows)
       go (none h) = yes ((solvable_none rows).1 h)
-      go (found u p v n q) = no (λ s. n (all_to_front (λ r. lead A r ≡ 𝟘) u p v (subst (All (λ r. lead A r ≡ 𝟘)) q ((solvable_none rows).0 s))).0)
+      go (found u p v n q) = no (λ s. n (all_to_front (λ r. lead A r ≡ 𝟘) u p v (subst (AllByRecursion (λ r. lead A r ≡ 𝟘)) q ((solvable_none rows).0 s))).0)
   solvable? (suc n) rows = go (find_pivot rows) (solvable? n)
     where
       carry : {P Q : Type 0} → P ↔ Q → Dec Q → Dec P

@@ -1,7 +1,7 @@
 -- What elimination keeps of the solutions of a system of numbers, from the same over the field on the symbols. Assumes nothing.
 use Rattle.std.proofs.Common.{◌≡◌, ℕ, suc, ◌<◌, ◌≢◌, ◌↔◌, List, [], ◌∷◌, map, length, get_or, sym, refl, ap, ◌∙◌, subst, arith}
 use lib.ListN.{length-map, get_or-map}
-use Rattle.std.specs.List.{AllByRecursion as All}
+use Rattle.std.specs.List.{AllByRecursion}
 use Rattle.field.specs.Meaning.{Meaning, IsField, opposite_of, inverse_of}
 use Rattle.algebra.specs.FieldOn.{Ops, FieldOn}
 use Rattle.algebra.specs.Symbols.{numbers, Symbols, Below, val}
@@ -23,12 +23,12 @@ module _ (F : Meaning) (laws : IsField F) where
   abbrev N : Ops ℕ
   N = numbers F
 
-  rows_back : (rows : List (List ℕ)) → All (Symbols F) rows → map (λ r. map val r) (map (λ r. map (to F laws) r) rows) ≡ rows
+  rows_back : (rows : List (List ℕ)) → AllByRecursion (Symbols F) rows → map (λ r. map val r) (map (λ r. map (to F laws) r) rows) ≡ rows
   rows_back [] s = refl
   rows_back (r ∷ rows) (s, ss) = cons_path (vals_tos F laws r s) (rows_back rows ss)
 
   -- a statement on all rows of symbols holds if it holds on the numbers of rows over the field
-  pub from_rows : (P : List (List ℕ) → Type 0) → ((rows : List (List (Below F.q))) → P (map (λ r. map val r) rows)) → (rows : List (List ℕ)) → All (Symbols F) rows → P rows
+  pub from_rows : (P : List (List ℕ) → Type 0) → ((rows : List (List (Below F.q))) → P (map (λ r. map val r) rows)) → (rows : List (List ℕ)) → AllByRecursion (Symbols F) rows → P rows
   from_rows P h rows s = subst P (rows_back rows s) (h (map (λ r. map (to F laws) r) rows))
 
   getD_val : (r xs : List (Below F.q)) → get_or (map val r) (length (map val xs)) 0 ≡ val (get_or r (length xs) A.zero)
@@ -76,7 +76,7 @@ module _ (F : Meaning) (laws : IsField F) where
       ∙ ap (λ z. F.product (inverse_of F (lead N (map val p))) (F.sum (get_or (rest N (map val p)) (length (map val xs)) 0) (opposite_of F z)))
       (dot_map A N val (val_respects F laws) (rest A p) xs ∙ ap (λ r. dot N r (map val xs)) (rest_map A N val (val_respects F laws) p))
 
-  leads_to : (rows : List (List (Below F.q))) → All (λ r. lead N r ≡ 0) (map (λ r. map val r) rows) → All (λ r. lead A r ≡ A.zero) rows
+  leads_to : (rows : List (List (Below F.q))) → AllByRecursion (λ r. lead N r ≡ 0) (map (λ r. map val r) rows) → AllByRecursion (λ r. lead A r ≡ A.zero) rows
   leads_to [] h = tt
   leads_to (r ∷ rows) (h, hs) = (val_injective (lead_map A N val (val_respects F laws) r ∙ h), leads_to rows hs)
 
@@ -84,7 +84,7 @@ module _ (F : Meaning) (laws : IsField F) where
   pivot_to p n e = n (sym (lead_map A N val (val_respects F laws) p) ∙ ap (λ (a : Below F.q). val a) e)
 
   abbrev ZeroColumnAt : List (List ℕ) → ℕ → List ℕ → Type 0
-  ZeroColumnAt rows x xs = All (λ r. lead N r ≡ 0) rows → Solves N rows (x ∷ xs) ↔ Solves N (map (rest N) rows) xs
+  ZeroColumnAt rows x xs = AllByRecursion (λ r. lead N r ≡ 0) rows → Solves N rows (x ∷ xs) ↔ Solves N (map (rest N) rows) xs
 
   zero_column_inside : (rows : List (List (Below F.q))) (x : Below F.q) (xs : List (Below F.q)) → ZeroColumnAt (map (λ r. map val r) rows) (val x) (map val xs)
   zero_column_inside rows x xs z =
@@ -94,7 +94,7 @@ module _ (F : Meaning) (laws : IsField F) where
       )
 
   -- a column of zeros: its unknown is free
-  pub zero_column_numbers : (rows : List (List ℕ)) (x : ℕ) (xs : List ℕ) → All (Symbols F) rows → x < F.q → Symbols F xs → All (λ r. lead N r ≡ 0) rows → Solves N rows (x ∷ xs) ↔ Solves N (map (rest N) rows) xs
+  pub zero_column_numbers : (rows : List (List ℕ)) (x : ℕ) (xs : List ℕ) → AllByRecursion (Symbols F) rows → x < F.q → Symbols F xs → AllByRecursion (λ r. lead N r ≡ 0) rows → Solves N rows (x ∷ xs) ↔ Solves N (map (rest N) rows) xs
   zero_column_numbers rows x xs sr sx sxs =
       from_rows (λ z. ZeroColumnAt z x xs)
       (λ rs. from_symbols F laws (λ z. ZeroColumnAt (map (λ r. map val r) rs) x z) (λ ys. zero_column_inside rs (x, sx) ys) xs sxs) rows sr
@@ -114,7 +114,7 @@ module _ (F : Meaning) (laws : IsField F) where
       )
 
   -- the pivot row tells the first unknown, and the others solve what is left when it is cleared
-  pub pivot_numbers : (p : List ℕ) (rows : List (List ℕ)) (x : ℕ) (xs : List ℕ) → Symbols F p → All (Symbols F) rows → x < F.q → Symbols F xs → lead N p ≢ 0 → Solves N (p ∷ rows) (x ∷ xs) ↔ ((x ≡ head_unknown N p xs) × Solves N (map (rest N) (map (cleared N p) rows)) xs)
+  pub pivot_numbers : (p : List ℕ) (rows : List (List ℕ)) (x : ℕ) (xs : List ℕ) → Symbols F p → AllByRecursion (Symbols F) rows → x < F.q → Symbols F xs → lead N p ≢ 0 → Solves N (p ∷ rows) (x ∷ xs) ↔ ((x ≡ head_unknown N p xs) × Solves N (map (rest N) (map (cleared N p) rows)) xs)
   pivot_numbers p rows x xs sp sr sx sxs =
       from_symbols F laws (λ z. PivotAt z rows x xs)
       (λ p. from_rows (λ z. PivotAt (map val p) z x xs)
@@ -132,14 +132,14 @@ module _ (F : Meaning) (laws : IsField F) where
       (λ p. from_symbols F laws (λ z. head_unknown N (map val p) z < F.q) (λ xs. subst (λ n. n < F.q) (head_val p xs) (head_unknown A p xs).1) xs sxs) p sp
 
   -- how solvable systems go on to smaller ones
-  pub solvable_none_numbers : (rows : List (List ℕ)) → SolvableNumbers F 0 rows ↔ All (λ r. lead N r ≡ 0) rows
+  pub solvable_none_numbers : (rows : List (List ℕ)) → SolvableNumbers F 0 rows ↔ AllByRecursion (λ r. lead N r ≡ 0) rows
   solvable_none_numbers rows = ((λ s. go s.0 s.1 s.3), (λ h. ([], refl, tt, (solves_none N rows).1 h)))
     where
-      go : (xs : List ℕ) → length xs ≡ 0 → Solves N rows xs → All (λ r. lead N r ≡ 0) rows
+      go : (xs : List ℕ) → length xs ≡ 0 → Solves N rows xs → AllByRecursion (λ r. lead N r ≡ 0) rows
       go [] e h = (solves_none N rows).0 h
       go (x ∷ xs) e h = absurd (omega arith)
 
-  pub solvable_zero_column_numbers : (n : ℕ) (rows : List (List ℕ)) → All (Symbols F) rows → All (λ r. lead N r ≡ 0) rows → SolvableNumbers F (suc n) rows ↔ SolvableNumbers F n (map (rest N) rows)
+  pub solvable_zero_column_numbers : (n : ℕ) (rows : List (List ℕ)) → AllByRecursion (Symbols F) rows → AllByRecursion (λ r. lead N r ≡ 0) rows → SolvableNumbers F (suc n) rows ↔ SolvableNumbers F n (map (rest N) rows)
   solvable_zero_column_numbers n rows sr z = (
     (λ s. go s.0 s.1 s.2 s.3),
     (λ s. (0 ∷ s.0, ap suc s.1, (A.zero.1, s.2), (zero_column_numbers rows 0 s.0 sr A.zero.1 s.2 z).1 s.3)),
@@ -149,7 +149,7 @@ module _ (F : Meaning) (laws : IsField F) where
       go [] e sy h = absurd (omega arith)
       go (x ∷ xs) e (sx, sy) h = (xs, omega arith, sy, (zero_column_numbers rows x xs sr sx sy z).0 h)
 
-  pub solvable_pivot_numbers : (n : ℕ) (p : List ℕ) (rows : List (List ℕ)) → Symbols F p → All (Symbols F) rows → lead N p ≢ 0 → SolvableNumbers F (suc n) (p ∷ rows) ↔ SolvableNumbers F n (map (rest N) (map (cleared N p) rows))
+  pub solvable_pivot_numbers : (n : ℕ) (p : List ℕ) (rows : List (List ℕ)) → Symbols F p → AllByRecursion (Symbols F) rows → lead N p ≢ 0 → SolvableNumbers F (suc n) (p ∷ rows) ↔ SolvableNumbers F n (map (rest N) (map (cleared N p) rows))
   solvable_pivot_numbers n p rows sp sr k = (
     (λ s. go s.0 s.1 s.2 s.3),
     (λ s.

@@ -1,6 +1,6 @@
 -- Sums, multiples, dot products and combinations of vectors are linear. Assumes nothing.
 use Rattle.std.proofs.Common.{◌≡◌, ℕ, zero, suc, ◌≤◌, max, List, [], ◌∷◌, ◌++◌, map, length, get_or, sym, refl, ap, ◌∙◌, arith}
-use Rattle.std.specs.List.{AllByRecursion as All}
+use Rattle.std.specs.List.{AllByRecursion}
 use Rattle.algebra.specs.FieldOn.{Ops, FieldOn}
 use Rattle.algebra.specs.Vectors.{plus, times, opposite, minus, total, dot, combination, plus_each, Zeros}
 use Rattle.algebra.proofs.Ring.{ring, ⊕-comm, ⊕-assoc, ⊕-zero, zero-⊕, ⊙-zero, zero-⊙, ⊙-⊕, ⊙-comm, ⊙-assoc, one-⊙, ⊕-neg, neg_zero, equal_from_difference}
@@ -215,7 +215,7 @@ module _ {K : Type 0} (F : FieldOn K) where
       ∙ sym (times_plus c (times A d v) (combination A cs vs))
 
   -- no longer than the longest vector
-  pub length_combination : (n : ℕ) (cs : List K) (vs : List (List K)) → All (λ v. length v ≤ n) vs → length (combination A cs vs) ≤ n
+  pub length_combination : (n : ℕ) (cs : List K) (vs : List (List K)) → AllByRecursion (λ v. length v ≤ n) vs → length (combination A cs vs) ≤ n
   length_combination n [] vs h = omega arith
   length_combination n (c ∷ cs) [] h = omega arith
   length_combination n (c ∷ cs) (v ∷ vs) (h, hs) =

@@ -1,6 +1,6 @@
 -- Matrices by their columns, and those that are non-singular by columns. Assumes nothing.
 use Rattle.std.specs.Prelude.{◌≡◌, ℕ, zero, suc, ◌≤◌, Bool, true, false, not, ◌&&◌, ◌≢◌, ◌⊎◌, List, [], ◌∷◌, length}
-use Rattle.std.specs.List.{AllByRecursion as All}
+use Rattle.std.specs.List.{AllByRecursion}
 use Rattle.field.specs.Meaning.{Meaning}
 use Rattle.algebra.specs.FieldOn.{Ops}
 use Rattle.algebra.specs.Symbols.{numbers, Symbols}
@@ -13,8 +13,8 @@ module _ {K : Type 0} (A : Ops K) {I : Type 0} where
   -- For t up to s and any t different columns, the only combination of the first t rows that is 0 in those columns has all coefficients 0.
   abbrev pub Nonsingular : ℕ → (I → List K) → (I → Type 0) → Type 0
   Nonsingular s column In =
-      (js : List I) (cs : List K) → length cs ≤ s → length js ≡ length cs → Different js → All In js
-      → All (λ j. dot A cs (column j) ≡ A.zero) js → Zeros A cs
+      (js : List I) (cs : List K) → length cs ≤ s → length js ≡ length cs → Different js → AllByRecursion In js
+      → AllByRecursion (λ j. dot A cs (column j) ≡ A.zero) js → Zeros A cs
 
   -- the first row cleared from the others by the pivot in column p, and dropped
   abbrev pub reduced : (I → List K) → I → I → List K
@@ -28,8 +28,8 @@ module _ {K : Type 0} (A : Ops K) {I : Type 0} where
 -- the same of a matrix of numbers: the coefficients are symbols
 abbrev pub NonsingularNumbers : Meaning → ℕ → (ℕ → List ℕ) → (ℕ → Type 0) → Type 0
 NonsingularNumbers F s column In =
-    (js : List ℕ) (cs : List ℕ) → length cs ≤ s → length js ≡ length cs → Different js → All In js → Symbols F cs
-    → All (λ j. dot (numbers F) cs (column j) ≡ 0) js → Zeros (numbers F) cs
+    (js : List ℕ) (cs : List ℕ) → length cs ≤ s → length js ≡ length cs → Different js → AllByRecursion In js → Symbols F cs
+    → AllByRecursion (λ j. dot (numbers F) cs (column j) ≡ 0) js → Zeros (numbers F) cs
 
 -- all elements pass
 abbrev pub every : {X : Type 0} → (X → Bool) → List X → Bool

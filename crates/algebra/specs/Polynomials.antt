@@ -1,13 +1,13 @@
 -- Polynomials as lists of coefficients, lowest first. Assumes nothing.
 use Rattle.std.specs.Prelude.{◌≢◌, List, [], ◌∷◌, ◌++◌}
-use Rattle.std.specs.List.{AllByRecursion as All}
+use Rattle.std.specs.List.{AllByRecursion}
 use Rattle.algebra.specs.FieldOn.{Ops}
 use Rattle.algebra.specs.Vectors.{plus, times}
 
 -- no two elements of the list are equal
 abbrev pub Different : {X : Type 0} → List X → Type 0
 Different [] = Unit {0}
-Different (x ∷ xs) = All (λ y. x ≢ y) xs × Different xs
+Different (x ∷ xs) = AllByRecursion (λ y. x ≢ y) xs × Different xs
 
 module _ {K : Type 0} (A : Ops K) where
   -- the value at x, by Horner's rule

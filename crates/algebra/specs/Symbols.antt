@@ -1,6 +1,6 @@
 -- The arithmetic of a field of numbers: as it stands, and on its symbols alone. Assumes nothing.
 use Rattle.std.specs.Prelude.{ℕ, ◌<◌, List}
-use Rattle.std.specs.List.{AllByRecursion as All}
+use Rattle.std.specs.List.{AllByRecursion}
 use Rattle.field.specs.Meaning.{Meaning, opposite_of, inverse_of}
 use Rattle.algebra.specs.FieldOn.{Ops}
 
@@ -10,7 +10,7 @@ numbers F = record { zero = 0; one = 1; add = F.sum; mul = F.product; neg = oppo
 
 -- all of the numbers are symbols
 abbrev pub Symbols : Meaning → List ℕ → Type 0
-Symbols F xs = All (λ x. x < F.q) xs
+Symbols F xs = AllByRecursion (λ x. x < F.q) xs
 
 -- a number with the proof that it is below q
 abbrev pub Below : ℕ → Type 0

@@ -1,6 +1,6 @@
 -- Systems of linear equations. A row holds the coefficients, one for each unknown, and then the right-hand side. Assumes nothing.
 use Rattle.std.specs.Prelude.{◌≡◌, ℕ, List, [], ◌∷◌, length, slice_index_or}
-use Rattle.std.specs.List.{AllByRecursion as All}
+use Rattle.std.specs.List.{AllByRecursion}
 use Rattle.field.specs.Meaning.{Meaning}
 use Rattle.algebra.specs.FieldOn.{Ops}
 use Rattle.algebra.specs.Symbols.{numbers, Symbols}
@@ -12,7 +12,7 @@ module _ {K : Type 0} (A : Ops K) where
   Meets r xs = dot A r xs ≡ slice_index_or r (length xs) A.zero
 
   abbrev pub Solves : List (List K) → List K → Type 0
-  Solves rows xs = All (λ r. Meets r xs) rows
+  Solves rows xs = AllByRecursion (λ r. Meets r xs) rows
 
   -- some n elements solve the system
   abbrev pub Solvable : ℕ → List (List K) → Type 0

@@ -1,6 +1,6 @@
 -- What is shown of every field of numbers, as the calls of this crate promise it. Assumes nothing.
 use Rattle.std.specs.Prelude.{◌≡◌, ℕ, ◌+◌, ◌-◌, ◌/◌, ◌<◌, ◌≤◌, Bool, T, ◌≢◌, ◌↔◌, List, length, nat_eq}
-use Rattle.std.specs.List.{AllByRecursion as All}
+use Rattle.std.specs.List.{AllByRecursion}
 use Rattle.field.specs.Meaning.{Meaning}
 use Rattle.algebra.specs.Symbols.{numbers, Symbols}
 use Rattle.algebra.specs.Vectors.{dot, Zeros}
@@ -14,7 +14,7 @@ use Rattle.algebra.specs.Matrices.{NonsingularNumbers, Among, tested}
 abbrev pub RootsBounded : Meaning → Type 0
 RootsBounded F =
     (f points : List ℕ) → Symbols F f → Symbols F points → Different points → length f ≤ length points
-    → All (λ x. value (numbers F) f x ≡ 0) points → Zeros (numbers F) f
+    → AllByRecursion (λ x. value (numbers F) f x ≡ 0) points → Zeros (numbers F) f
 
 -- The words of two different polynomials of k coefficients at m different points differ in at least m − k + 1 places.
 abbrev pub ValuesApart : Meaning → Type 0

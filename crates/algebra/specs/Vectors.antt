@@ -1,6 +1,6 @@
 -- Vectors as lists: a shorter one counts as filled up with zeros. Assumes nothing.
 use Rattle.std.specs.Prelude.{◌≡◌, List, [], ◌∷◌}
-use Rattle.std.specs.List.{AllByRecursion as All}
+use Rattle.std.specs.List.{AllByRecursion}
 use Rattle.algebra.specs.FieldOn.{Ops}
 
 module _ {K : Type 0} (A : Ops K) where
@@ -46,4 +46,4 @@ module _ {K : Type 0} (A : Ops K) where
 
   -- all places are 0
   abbrev pub Zeros : List K → Type 0
-  Zeros xs = All (λ x. x ≡ A.zero) xs
+  Zeros xs = AllByRecursion (λ x. x ≡ A.zero) xs

@@ -1,7 +1,7 @@
 -- Two different codewords differ in at least d places. Assumes nothing.
 use Rattle.std.proofs.Common.{◌≡◌, ℕ, zero, suc, ◌+◌, ◌-◌, ◌*◌, ◌<◌, ◌≤◌, eqb, ◌≢◌, ◌⊎◌, List, [], ◌∷◌, ◌++◌, map, length, replicate, None, sym, refl, ap, ◌∙◌, subst, ap₂, inl, inr, mul_comm, mul-le-mul, arith}
 use lib.ListN.{length-map}
-use Rattle.std.specs.List.{AllByRecursion as All}
+use Rattle.std.specs.List.{AllByRecursion}
 use Rattle.field.specs.Meaning.{IsField}
 use Rattle.field.specs.Meaning as fields
 use Rattle.field.specs.Places.{distance}
@@ -152,7 +152,7 @@ module _ (M : Meaning) (s : Sound M) (chain : IsChain M.chain) where
         (λ j. (block_word M s chain xs wx M.chain.s (omega arith) j).long) (λ j. (block_word M s chain ys wy M.chain.s (omega arith) j).long)
         ∙ sum_range (λ j. distance (block_to M xs M.chain.s j) (block_to M ys M.chain.s j)) (λ k. weight G (combination A (columnK k) (listed diffK M.chain.s))) M.l (λ k h. block_distance k)
 
-    total_zero : All (Zeros A) (listed diffK M.chain.s) → (ks : List ℕ) → sum_of (λ k. weight G (combination A (columnK k) (listed diffK M.chain.s))) ks ≡ 0
+    total_zero : AllByRecursion (Zeros A) (listed diffK M.chain.s) → (ks : List ℕ) → sum_of (λ k. weight G (combination A (columnK k) (listed diffK M.chain.s))) ks ≡ 0
     total_zero z [] = refl
     total_zero z (k ∷ ks) = let a = zeros_weight G (columnK k) (listed diffK M.chain.s) z in let b = total_zero z ks in omega arith
 
@@ -176,7 +176,7 @@ module _ (M : Meaning) (s : Sound M) (chain : IsChain M.chain) where
         ∙ distance_weight G X Y (part_length xs wx i h ∙ sym (part_length ys wy i h)) ∙ ap (weight G) (sym (less_minus G X Y)) in
         omega arith
 
-    far_enough : All (Zeros A) (listed diffK M.chain.s) ⊎ Last G diffK M.chain.s → codeword M xs ≢ codeword M ys → d_of M ≤ distance (codeword M xs) (codeword M ys)
+    far_enough : AllByRecursion (Zeros A) (listed diffK M.chain.s) ⊎ Last G diffK M.chain.s → codeword M xs ≢ codeword M ys → d_of M ≤ distance (codeword M xs) (codeword M ys)
     far_enough (inl z) n = absurd (n (distance_zero eqb eqb_tells _ _ (codeword_distance ∙ total_zero z (range 0 M.l))))
     far_enough (inr last) n =
         let r = last.before in
@@ -186,7 +186,7 @@ module _ (M : Meaning) (s : Sound M) (chain : IsChain M.chain) where
         let w = diffK (suc r) in
         let lu = length_listed diffK r in
         let lj = length_range 0 M.l in
-        let fits : All (λ v. length v ≤ M.chain.m) (us ++ (w ∷ last.rest)) = subst (All (λ v. length v ≤ M.chain.m)) last.is (all_listed (λ v. length v ≤ M.chain.m) diffK M.chain.s diff_length) in
+        let fits : AllByRecursion (λ v. length v ≤ M.chain.m) (us ++ (w ∷ last.rest)) = subst (AllByRecursion (λ v. length v ≤ M.chain.m)) last.is (all_listed (λ v. length v ≤ M.chain.m) diffK M.chain.s diff_length) in
         let many = blocks_weight G M.chain.s columnK (Among js) good js (range_different 0 M.l) (among_itself js) M.chain.m us w last.rest (omega arith) last.zeros fits (diff_length r h) in
         let sums : sum_of (λ k. weight G (combination A (columnK k) (us ++ (w ∷ last.rest)))) js ≡ total = ap (λ ds. sum_of (λ k. weight G (combination A (columnK k) ds)) js) (sym last.is) in
         let least = least_below (λ i. (M.l - i + 1) * M.chain.distance i) M.chain.s (suc r) (omega arith) h in

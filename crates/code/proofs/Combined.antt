@@ -1,6 +1,6 @@
 -- Combinations of words over a field: one word more, their differences, and the last word that is not zero. Assumes nothing.
 use Rattle.std.proofs.Common.{◌≡◌, ℕ, zero, suc, ◌<◌, ◌⊎◌, List, [], ◌∷◌, ◌++◌, map, length, sym, refl, ap, ◌∙◌, ap₂, inl, inr, append_assoc, arith}
-use Rattle.std.specs.List.{AllByRecursion as All}
+use Rattle.std.specs.List.{AllByRecursion}
 use Rattle.std.proofs.ByRecursion.{All-push}
 use Rattle.field.specs.Places.{unless}
 use Rattle.field.proofs.Tests.{true_is}
@@ -25,7 +25,7 @@ module _ {K : Type 0} (F : FieldOn K) where
   combination_push (d ∷ cs) (v ∷ ws) c w e =
       ap (plus A (times A d v)) (combination_push cs ws c w (omega arith)) ∙ sym (plus_assoc F (times A d v) (combination A cs ws) (times A c w))
 
-  combination_zeros : (cs : List K) (ws : List (List K)) → All (Zeros A) ws → Zeros A (combination A cs ws)
+  combination_zeros : (cs : List K) (ws : List (List K)) → AllByRecursion (Zeros A) ws → Zeros A (combination A cs ws)
   combination_zeros [] ws z = tt
   combination_zeros (c ∷ cs) [] z = tt
   combination_zeros (c ∷ cs) (w ∷ ws) (z, zs) = plus_zeros F (times A c w) (combination A cs ws) (times_zeros F c w z) (combination_zeros cs ws zs)
@@ -39,7 +39,7 @@ module _ {K : Type 0} (F : FieldOn K) where
   weight_plus_zeros (x ∷ o) [] z = weight_zeros (x ∷ o) z
   weight_plus_zeros (x ∷ o) (y ∷ d) (z, zs) = ap₂ (λ a n. unless (is_zero F a) n) (ap (λ a. A.add a y) z ∙ zero-⊕ F y) (weight_plus_zeros o d zs)
 
-  pub zeros_weight : (cs : List K) (ws : List (List K)) → All (Zeros A) ws → weight F (combination A cs ws) ≡ 0
+  pub zeros_weight : (cs : List K) (ws : List (List K)) → AllByRecursion (Zeros A) ws → weight F (combination A cs ws) ≡ 0
   zeros_weight cs ws z = weight_zeros (combination A cs ws) (combination_zeros cs ws z)
 
   -- the difference of two words
@@ -89,14 +89,14 @@ module _ {K : Type 0} (F : FieldOn K) where
     pub within : before < n
     pub rest : List (List K)
     pub is : listed D n ≡ listed D before ++ (D (suc before) ∷ rest)
-    pub zeros : All (Zeros A) rest
+    pub zeros : AllByRecursion (Zeros A) rest
     pub there : Zeros A (D (suc before)) → ⊥
 
-  pub find_last : (D : ℕ → List K) (n : ℕ) → All (Zeros A) (listed D n) ⊎ Last D n
+  pub find_last : (D : ℕ → List K) (n : ℕ) → AllByRecursion (Zeros A) (listed D n) ⊎ Last D n
   find_last D zero = inl tt
   find_last D (suc n) = go (zeros? (D (suc n))) (find_last D n)
     where
-      go : Dec (Zeros A (D (suc n))) → All (Zeros A) (listed D n) ⊎ Last D n → All (Zeros A) (listed D (suc n)) ⊎ Last D (suc n)
+      go : Dec (Zeros A (D (suc n))) → AllByRecursion (Zeros A) (listed D n) ⊎ Last D n → AllByRecursion (Zeros A) (listed D (suc n)) ⊎ Last D (suc n)
       go (no m) r = inr (record { before = n; within = omega arith; rest = []; is = refl; zeros = tt; there = m })
       go (yes z) (inl zs) = inl (All-push (Zeros A) (listed D n) (D (suc n)) zs z)
       go (yes z) (inr last) = inr (record {

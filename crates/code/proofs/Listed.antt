@@ -1,7 +1,7 @@
 -- Lists of f 1, …, f n, and sums over them. Assumes nothing.
 use Rattle.std.proofs.Common.{◌≡◌, ℕ, zero, suc, ◌+◌, ◌-◌, ◌<◌, eqb, ◌≢◌, List, [], ◌∷◌, ◌++◌, map, length, get_or, sym, refl, ap, ◌∙◌, ap₂, inl, inr, arith}
 use native.Mathlib.Decide.{ℕ_discrete}
-use Rattle.std.specs.List.{AllByRecursion as All}
+use Rattle.std.specs.List.{AllByRecursion}
 use Rattle.std.proofs.ByRecursion.{All-push}
 use Rattle.std.proofs.lemmas.List.{length_push, get_or_push, get_or_append_left, map_push, ext_get_or}
 use Rattle.field.specs.Places.{distance}
@@ -23,7 +23,7 @@ module _ {X : Type 0} where
   length_listed f zero = refl
   length_listed f (suc n) = length_push (listed f n) (f (suc n)) ∙ (let e = length_listed f n in omega arith)
 
-  pub all_listed : (P : X → Type 0) (f : ℕ → X) (n : ℕ) → ((i : ℕ) → i < n → P (f (suc i))) → All P (listed f n)
+  pub all_listed : (P : X → Type 0) (f : ℕ → X) (n : ℕ) → ((i : ℕ) → i < n → P (f (suc i))) → AllByRecursion P (listed f n)
   all_listed P f zero h = tt
   all_listed P f (suc n) h = All-push P (listed f n) (f (suc n)) (all_listed P f n (λ i l. h i (omega arith))) (h n (omega arith))
 
@@ -59,7 +59,7 @@ column_listed rows k =
     ∙ ap₂ (λ a b. get_or (get_or rows a []) b 0) e d ∙ sym (column_at rows k i))
 
 -- the indexes 0 to n − 1
-above : (a b n : ℕ) → a < b → All (λ y. a ≢ y) (range b n)
+above : (a b n : ℕ) → a < b → AllByRecursion (λ y. a ≢ y) (range b n)
 above a b zero h = tt
 above a b (suc n) h = ((λ e. omega arith), above a (suc b) n (omega arith))
 
@@ -67,11 +67,11 @@ pub range_different : (a n : ℕ) → Different (range a n)
 range_different a zero = tt
 range_different a (suc n) = (above a (suc a) n (omega arith), range_different (suc a) n)
 
-among_all : (js ks : List ℕ) → ((j : ℕ) → Among ks j → Among js j) → All (Among js) ks
+among_all : (js ks : List ℕ) → ((j : ℕ) → Among ks j → Among js j) → AllByRecursion (Among js) ks
 among_all js [] f = tt
 among_all js (k ∷ ks) f = (f k (inl refl), among_all js ks (λ j m. f j (inr m)))
 
-pub among_itself : (js : List ℕ) → All (Among js) js
+pub among_itself : (js : List ℕ) → AllByRecursion (Among js) js
 among_itself js = among_all js js (λ j m. m)
 
 pub length_range : (a n : ℕ) → length (range a n) ≡ n

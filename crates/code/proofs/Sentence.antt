@@ -2,7 +2,7 @@
 use Rattle.std.proofs.Common.{◌≡◌, ℕ, zero, suc, ◌+◌, ◌<◌, ◌≤◌, Bool, true, false, not, T, eqb, ltb, ◌≢◌, List, [], ◌∷◌, ◌++◌, length, replicate, sym, refl, ap, ◌∙◌, subst, inl, inr, arith, eqb→eq, ltb→lt, lt→ltb, T_not}
 use native.Mathlib.Decide.{dec_le, ℕ_discrete}
 use lib.Dec.{eqb_refl, not_T}
-use Rattle.std.specs.List.{AllByRecursion as All}
+use Rattle.std.specs.List.{AllByRecursion}
 use Rattle.field.specs.Meaning.{Meaning, IsField}
 use Rattle.field.specs.Words.{symbols}
 use Rattle.field.proofs.Accepted.{both_hold}
@@ -21,11 +21,11 @@ use Rattle.code.specs.Columns.{column, all_different, implies, vanishes, all_zer
 use Rattle.code.specs.Elimination.{free_from, passes}
 use Rattle.code.proofs.Clearing.{symbol_any}
 
-pub symbols_all : (q : ℕ) (xs : List ℕ) → T (symbols q xs) → All (λ x. x < q) xs
+pub symbols_all : (q : ℕ) (xs : List ℕ) → T (symbols q xs) → AllByRecursion (λ x. x < q) xs
 symbols_all q [] t = tt
 symbols_all q (x ∷ xs) t = (ltb→lt x q (both_left (ltb x q) (symbols q xs) t), symbols_all q xs (both_right (ltb x q) (symbols q xs) t))
 
-pub all_symbols : (q : ℕ) (xs : List ℕ) → All (λ x. x < q) xs → T (symbols q xs)
+pub all_symbols : (q : ℕ) (xs : List ℕ) → AllByRecursion (λ x. x < q) xs → T (symbols q xs)
 all_symbols q [] h = tt
 all_symbols q (x ∷ xs) (h, hs) = both_hold _ _ (lt→ltb x q h) (all_symbols q xs hs)
 
@@ -38,11 +38,11 @@ implies_holds true b t s = t
 implies_holds false b t s = absurd s
 
 -- tests of all elements
-pub all_pass : {X : Type 0} (test : X → Bool) (P : X → Type 0) → ((x : X) → T (test x) → P x) → (xs : List X) → T (every test xs) → All P xs
+pub all_pass : {X : Type 0} (test : X → Bool) (P : X → Type 0) → ((x : X) → T (test x) → P x) → (xs : List X) → T (every test xs) → AllByRecursion P xs
 all_pass test P f [] t = tt
 all_pass test P f (x ∷ xs) t = (f x (both_left (test x) (every test xs) t), all_pass test P f xs (both_right (test x) (every test xs) t))
 
-pub pass_all : {X : Type 0} (test : X → Bool) (P : X → Type 0) → ((x : X) → P x → T (test x)) → (xs : List X) → All P xs → T (every test xs)
+pub pass_all : {X : Type 0} (test : X → Bool) (P : X → Type 0) → ((x : X) → P x → T (test x)) → (xs : List X) → AllByRecursion P xs → T (every test xs)
 pass_all test P f [] h = tt
 pass_all test P f (x ∷ xs) (h, hs) = both_hold _ _ (f x h) (pass_all test P f xs hs)
 
@@ -121,7 +121,7 @@ module _ {F : Meaning} (lawful : IsField F) (s w : ℕ) (rows : List (List ℕ))
       (pass_all (λ j. eqb (dot (numbers F) (c ∷ cs) (column rows j)) 0) (λ j. dot (numbers F) (c ∷ cs) (column rows j) ≡ 0) (λ j x. subst (λ k. T (eqb k 0)) (sym x) tt) js z) in
       all_pass (λ x. eqb x 0) (λ x. x ≡ 0) (λ x u. eqb→eq x 0 u) (c ∷ cs) at_cs
 
-  pub column_symbols : (rs : List (List ℕ)) → All (λ r. T (symbols F.q r)) rs → (j : ℕ) → Symbols F (column rs j)
+  pub column_symbols : (rs : List (List ℕ)) → AllByRecursion (λ r. T (symbols F.q r)) rs → (j : ℕ) → Symbols F (column rs j)
   column_symbols [] h j = tt
   column_symbols (r ∷ rs) (h, hs) j = (symbol_any lawful r h j, column_symbols rs hs j)
 
@@ -132,7 +132,7 @@ module _ {F : Meaning} (lawful : IsField F) (s w : ℕ) (rows : List (List ℕ))
   pub nonsingular_columns : T (nonsingular F s w rows) → NonsingularNumbers F s (column rows) (Among (range 0 w))
   nonsingular_columns t = fewer (λ j. j < w) (Among (range 0 w)) (λ j a. let h = among_below 0 w j a in omega arith) (from_sentence t)
 
-  pub passes_decides : (n : ℕ) → length rows ≡ s → All (λ r. T (symbols F.q r)) rows → passes F rows (replicate w false ++ replicate n true) ≡ nonsingular F s w rows
+  pub passes_decides : (n : ℕ) → length rows ≡ s → AllByRecursion (λ r. T (symbols F.q r)) rows → passes F rows (replicate w false ++ replicate n true) ≡ nonsingular F s w rows
   passes_decides n long sy =
       ap (λ js. tested (numbers F) (λ a. eqb a 0) eqb (length rows) (column rows) js) (free_range 0 w n)
       ∙ ap (λ k. tested (numbers F) (λ a. eqb a 0) eqb k (column rows) (range 0 w)) long

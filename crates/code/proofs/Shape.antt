@@ -2,7 +2,7 @@
 use Rattle.std.proofs.Common.{◌≡◌, ℕ, zero, suc, ◌+◌, ◌*◌, ◌<◌, ◌≤◌, Bool, true, false, cond, ◌&&◌, T, eqb, leb, List, [], length, get_or, take, drop, None, sym, refl, ap, ◌∙◌, subst, ap₂, arith, le→leb, eqb→eq, length-drop, length-take}
 use lib.Dec.{eqb_refl}
 use Rattle.std.specs.Option.{option_or}
-use Rattle.std.specs.List.{AllByRecursion as All}
+use Rattle.std.specs.List.{AllByRecursion}
 use Rattle.std.proofs.ByRecursion.{All-get_or, All-from_get_or, All-push}
 use Rattle.std.proofs.lemmas.List.{at_drop_more, length_push}
 use Rattle.std.proofs.lemmas.Bool.{cond-true}
@@ -49,7 +49,7 @@ four_parts a b c d t =
 pub held_rows : (a : Matrix) → length (held a) ≡ a.height
 held_rows a = held_length a.rows a.height a.width (omega (arith, a.tall, a.low))
 
-pub held_columns : (a : Matrix) → All (λ r. length r ≡ a.width) (held a)
+pub held_columns : (a : Matrix) → AllByRecursion (λ r. length r ≡ a.width) (held a)
 held_columns a =
     All-from_get_or (λ r. length r ≡ a.width) (held a) [] (λ i l.
     let e = held_rows a in
@@ -79,7 +79,7 @@ pub rows_length : (l : ℕ) (xs : List ℕ) (n : ℕ) → length (rows_to l xs n
 rows_length l xs zero = refl
 rows_length l xs (suc n) = length_push (rows_to l xs n) (take l (drop (n * l) xs)) ∙ (let e = rows_length l xs n in omega arith)
 
-rows_are_long : (l : ℕ) (xs : List ℕ) (s n : ℕ) → n ≤ s → length xs ≡ s * l → All (λ r. length r ≡ l) (rows_to l xs n)
+rows_are_long : (l : ℕ) (xs : List ℕ) (s n : ℕ) → n ≤ s → length xs ≡ s * l → AllByRecursion (λ r. length r ≡ l) (rows_to l xs n)
 rows_are_long l xs s zero h e = tt
 rows_are_long l xs s (suc n) h e =
     All-push (λ r. length r ≡ l) (rows_to l xs n) (take l (drop (n * l) xs)) (rows_are_long l xs s n (omega arith) e)

@@ -2,7 +2,7 @@
 use Rattle.std.proofs.Common.{◌≡◌, ℕ, ◌-◌, ◌<◌, ◌≤◌, Bool, true, false, T, eqb, leb, List, [], length, get_or, Some, None, Option, sym, refl, subst, arith, eqb→eq, leb→le}
 use native.Mathlib.Decide.{dec_lt}
 use Rattle.std.specs.Option.{option_or}
-use Rattle.std.specs.List.{AllByRecursion as All}
+use Rattle.std.specs.List.{AllByRecursion}
 use Rattle.std.proofs.ByRecursion.{All-get_or}
 use Rattle.std.proofs.lemmas.List.{get_or_past}
 use Rattle.refusal.specs.declared.Refusal.{Refusal}
@@ -33,8 +33,8 @@ pub record Sound (M : Meaning) : Type 0 where
   pub narrow : M.chain.s ≤ M.l
   pub wide : M.l ≤ 8
   pub tall : length M.matrix ≡ M.chain.s
-  pub lengths : All (λ r. length r ≡ M.l) M.matrix
-  pub words : All (λ r. T (symbols M.chain.field.q r)) M.matrix
+  pub lengths : AllByRecursion (λ r. length r ≡ M.l) M.matrix
+  pub words : AllByRecursion (λ r. T (symbols M.chain.field.q r)) M.matrix
   pub columns : T (is_nonsingular M)
 
 pub sound : (M : Meaning) → code_flaw M ≡ None → Sound M
@@ -56,7 +56,7 @@ sound M e =
     }
 
 -- every entry is a symbol, and past the matrix there are zeros
-pub entry_small : {F : fields.Meaning} (lawful : IsField F) (rows : List (List ℕ)) → All (λ r. T (symbols F.q r)) rows → (i j : ℕ) → entry_at rows i j < F.q
+pub entry_small : {F : fields.Meaning} (lawful : IsField F) (rows : List (List ℕ)) → AllByRecursion (λ r. T (symbols F.q r)) rows → (i j : ℕ) → entry_at rows i j < F.q
 entry_small {F} lawful rows h i j = symbol_any lawful (get_or rows (i - 1) []) (go (dec_lt (i - 1) (length rows))) (j - 1)
   where
     go : Dec (i - 1 < length rows) → T (symbols F.q (get_or rows (i - 1) []))

@@ -1,6 +1,6 @@
 -- One step of elimination on the rows of a matrix, and the columns that are not yet taken. Assumes nothing.
 use Rattle.std.specs.Prelude.{◌≡◌, ℕ, suc, Bool, true, false, T, List, [], ◌∷◌, map, length, nat_eq, slice_index}
-use Rattle.std.specs.List.{AllByRecursion as All}
+use Rattle.std.specs.List.{AllByRecursion}
 use Rattle.field.specs.Meaning.{opposite_of, inverse_of}
 use Rattle.field.specs.Meaning as fields
 use Rattle.field.specs.Words.{symbols, plus_scaled}
@@ -25,7 +25,7 @@ free_from a (false ∷ ts) = a ∷ free_from (suc a) ts
 
 -- all rows are words of w symbols
 abbrev pub Rows : fields.Meaning → ℕ → List (List ℕ) → Type 0
-Rows F w rows = All (λ r. T (symbols F.q r)) rows × All (λ r. length r ≡ w) rows
+Rows F w rows = AllByRecursion (λ r. T (symbols F.q r)) rows × AllByRecursion (λ r. length r ≡ w) rows
 
 -- the test by elimination, with every free column as the first pivot
 abbrev pub passes : fields.Meaning → List (List ℕ) → List Bool → Bool

@@ -1,7 +1,7 @@
 -- One step of the solver: from the system to the smaller one and back. Assumes nothing.
 use Rattle.std.proofs.Common.{◌≡◌, ℕ, zero, suc, ◌+◌, ◌-◌, ◌<◌, Bool, true, false, not, ◌≢◌, ◌↔◌, List, [], ◌∷◌, ◌++◌, map, length, get_or, take, drop, set, sym, ap, ◌∙◌, subst, ap₂, arith}
 use borrow.Rule.Slice.PartMut.{put_mid}
-use Rattle.std.specs.List.{AllByRecursion as All}
+use Rattle.std.specs.List.{AllByRecursion}
 use Rattle.std.proofs.lemmas.List.{take_rest, drop-drop, take_at, drop_at}
 use Rattle.std.proofs.ByRecursion.{All-drop, All-get_or}
 use Rattle.field.specs.Meaning.{Meaning, IsField, opposite_of, inverse_of}
@@ -25,7 +25,7 @@ module _ (F : Meaning) (laws : IsField F) where
   pub row_symbols : (c : ℕ) (r : List ℕ) → Symbols F (drop c r) → Symbols F (drop (c + 1) r)
   row_symbols c r s = subst (Symbols F) (drop-drop 1 c r) (All-drop (λ x. x < F.q) 1 (drop c r) s)
 
-  rows_symbols : (c w n : ℕ) (xs : List ℕ) → All (Symbols F) (rows_from c w n xs) → All (Symbols F) (rows_from (c + 1) w n xs)
+  rows_symbols : (c w n : ℕ) (xs : List ℕ) → AllByRecursion (Symbols F) (rows_from c w n xs) → AllByRecursion (Symbols F) (rows_from (c + 1) w n xs)
   rows_symbols c w zero xs s = tt
   rows_symbols c w (suc n) xs (s, ss) = (row_symbols c (take w xs) s, rows_symbols c w n (drop w xs) ss)
 
@@ -33,31 +33,31 @@ module _ (F : Meaning) (laws : IsField F) where
   rest_of [] s = tt
   rest_of (x ∷ r) (h, s) = s
 
-  left_symbols : (p : List ℕ) (rows : List (List ℕ)) → Symbols F p → All (Symbols F) rows → All (Symbols F) (map (rest N) (map (cleared N p) rows))
+  left_symbols : (p : List ℕ) (rows : List (List ℕ)) → Symbols F p → AllByRecursion (Symbols F) rows → AllByRecursion (Symbols F) (map (rest N) (map (cleared N p) rows))
   left_symbols p [] sp s = tt
   left_symbols p (r ∷ rows) sp (s, ss) = (rest_of _ (cleared_symbols F laws p r sp s), left_symbols p rows sp ss)
 
   -- before and after an exchange of rows
-  module _ (c w w' n : ℕ) (first others first' others' : List ℕ) (e : w' ≡ w) (ex : Exchanged (first ∷ rows_from 0 w n others) (first' ∷ rows_from 0 w n others')) (sf : Symbols F (drop c first)) (so : All (Symbols F) (rows_from c w n others)) where
-    same : (P : List ℕ → Type 0) → All P (drop c first ∷ rows_from c w n others) ↔ All P (drop c first' ∷ rows_from c w' n others')
-    same P = subst (λ k. All P (drop c first ∷ rows_from c w n others) ↔ All P (drop c first' ∷ rows_from c k n others')) (sym e) (system_same c w n first others first' others' ex P)
+  module _ (c w w' n : ℕ) (first others first' others' : List ℕ) (e : w' ≡ w) (ex : Exchanged (first ∷ rows_from 0 w n others) (first' ∷ rows_from 0 w n others')) (sf : Symbols F (drop c first)) (so : AllByRecursion (Symbols F) (rows_from c w n others)) where
+    same : (P : List ℕ → Type 0) → AllByRecursion P (drop c first ∷ rows_from c w n others) ↔ AllByRecursion P (drop c first' ∷ rows_from c w' n others')
+    same P = subst (λ k. AllByRecursion P (drop c first ∷ rows_from c w n others) ↔ AllByRecursion P (drop c first' ∷ rows_from c k n others')) (sym e) (system_same c w n first others first' others' ex P)
 
-    symbols' : All (Symbols F) (drop c first' ∷ rows_from c w' n others')
+    symbols' : AllByRecursion (Symbols F) (drop c first' ∷ rows_from c w' n others')
     symbols' = (same (Symbols F)).0 (sf, so)
 
     pub first_symbols : Symbols F (drop c first')
     first_symbols = symbols'.0
 
-    pub others_symbols : All (Symbols F) (rows_from c w' n others')
+    pub others_symbols : AllByRecursion (Symbols F) (rows_from c w' n others')
     others_symbols = symbols'.1
 
-    pub next_symbols : All (Symbols F) (rows_from (c + 1) w' n others')
+    pub next_symbols : AllByRecursion (Symbols F) (rows_from (c + 1) w' n others')
     next_symbols = rows_symbols c w' n others' others_symbols
 
     abbrev ZerosFound : Bool → Type 0
-    ZerosFound r = r ≡ false → All (λ row. get_or row c 0 ≡ 0) (first ∷ rows_from 0 w n others)
+    ZerosFound r = r ≡ false → AllByRecursion (λ row. get_or row c 0 ≡ 0) (first ∷ rows_from 0 w n others)
 
-    zeros : All (λ row. get_or row c 0 ≡ 0) (first ∷ rows_from 0 w n others) → All (λ r. lead N r ≡ 0) (drop c first ∷ rows_from c w n others)
+    zeros : AllByRecursion (λ row. get_or row c 0 ≡ 0) (first ∷ rows_from 0 w n others) → AllByRecursion (λ r. lead N r ≡ 0) (drop c first ∷ rows_from c w n others)
     zeros = leads_zero F laws c w n first others
 
     pub no_unknowns : (xs : List ℕ) (found : Bool) → length xs ≡ 0 → Symbols F xs → ZerosFound found → (found ≡ true → get_or first' c 0 ≡ 0 → ⊥) → Outcome F (drop c first ∷ rows_from c w n others) (length xs) (not found) xs
@@ -65,7 +65,7 @@ module _ (F : Meaning) (laws : IsField F) where
         none_left F laws (drop c first ∷ rows_from c w n others) xs found none s (λ r. zeros (missing r)) (λ r h. pivot r (sym (lead_drop N first' c) ∙ ((same (λ r. lead N r ≡ 0)).0 h).0))
 
     -- a column without a pivot
-    pub free_column : (xs ys : List ℕ) (r : Bool) → (length xs ≡ 0 → ⊥) → Symbols F xs → All (λ row. get_or row c 0 ≡ 0) (first ∷ rows_from 0 w n others) → Outcome F (drop (c + 1) first' ∷ rows_from (c + 1) w' n others') (length (take (length xs - 1) (drop 1 xs))) r ys → Outcome F (drop c first ∷ rows_from c w n others) (length xs) r (put_mid 1 (length xs - 1) xs ys)
+    pub free_column : (xs ys : List ℕ) (r : Bool) → (length xs ≡ 0 → ⊥) → Symbols F xs → AllByRecursion (λ row. get_or row c 0 ≡ 0) (first ∷ rows_from 0 w n others) → Outcome F (drop (c + 1) first' ∷ rows_from (c + 1) w' n others') (length (take (length xs - 1) (drop 1 xs))) r ys → Outcome F (drop c first ∷ rows_from c w n others) (length xs) r (put_mid 1 (length xs - 1) xs ys)
     free_column xs ys r some s missing h =
         let S' = drop c first' ∷ rows_from c w' n others' in
         let pos : 0 < length xs = omega arith in
@@ -95,9 +95,9 @@ module _ (F : Meaning) (laws : IsField F) where
           ∙ rows_first (c + 1) w' n (row ++ rest') some
           ∙ ap₂ (λ t d. drop (c + 1) t ∷ rows_from (c + 1) w' (n - 1) d) (take_at row rest' w' long) (drop_at row rest' w' long))
 
-      pub left_good : (row rest' : List ℕ) (k : ℕ) → (n ≡ 0 → ⊥) → others'' ≡ row ++ rest' → length row ≡ w' → k ≡ w' → All (Symbols F) (drop (c + 1) row ∷ rows_from (c + 1) k (n - 1) rest')
+      pub left_good : (row rest' : List ℕ) (k : ℕ) → (n ≡ 0 → ⊥) → others'' ≡ row ++ rest' → length row ≡ w' → k ≡ w' → AllByRecursion (Symbols F) (drop (c + 1) row ∷ rows_from (c + 1) k (n - 1) rest')
       left_good row rest' k some parts long ek =
-          subst (All (Symbols F)) (sym (left_is row rest' k some parts long ek)) (left_symbols (drop c first') (rows_from c w' n others') first_symbols others_symbols)
+          subst (AllByRecursion (Symbols F)) (sym (left_is row rest' k some parts long ek)) (left_symbols (drop c first') (rows_from c w' n others') first_symbols others_symbols)
 
       pub no_solution : (xs ys row rest' : List ℕ) (k : ℕ) → (length xs ≡ 0 → ⊥) → (n ≡ 0 → ⊥) → others'' ≡ row ++ rest' → length row ≡ w' → k ≡ w' → Outcome F (drop (c + 1) row ∷ rows_from (c + 1) k (n - 1) rest') (length (take (length xs - 1) (drop 1 xs))) false ys → SolvableNumbers F (length xs) (drop c first ∷ rows_from c w n others) → ⊥
       no_solution xs ys row rest' k pos some parts long ek h =

@@ -1,7 +1,7 @@
 -- Rows in one list: the first row and the others, and what an exchange of rows keeps. Assumes nothing.
 use Rattle.std.proofs.Common.{◌≡◌, ℕ, zero, suc, ◌+◌, ◌-◌, ◌*◌, ◌<◌, ◌≤◌, List, [], ◌∷◌, ◌++◌, map, length, get_or, take, drop, sym, refl, ap, ◌∙◌, subst, ap₂, inl, inr, suc-mul, mul-le-mul, add-one, arith}
 use borrow.Rule.Slice.PartMut.{put_mid, post_of}
-use Rattle.std.specs.List.{AllByRecursion as All}
+use Rattle.std.specs.List.{AllByRecursion}
 use Rattle.std.proofs.lemmas.List.{take_at, drop_at, get_or-take, take_all, drop_all, append-nil, length-take-le, length-drop, length-append, take_rest}
 use Rattle.std.proofs.lemmas.Slice.{take-put_mid_below}
 use Rattle.field.specs.Meaning.{Meaning}
@@ -33,8 +33,8 @@ pub rows_first : (c w n : ℕ) (xs : List ℕ) → (n ≡ 0 → ⊥) → rows_fr
 rows_first c w zero xs h = absurd (h refl)
 rows_first c w (suc n) xs h = let same : n ≡ suc n - 1 = omega arith in ap (λ k. drop c (take w xs) ∷ rows_from c w k (drop w xs)) same
 
-pub first_all : (P : List ℕ → Type 0) (c w n : ℕ) (xs : List ℕ) → (n ≡ 0 → ⊥) → All P (rows_from c w n xs) → P (drop c (take w xs))
-first_all P c w n xs some h = (subst (All P) (rows_first c w n xs some) h).0
+pub first_all : (P : List ℕ → Type 0) (c w n : ℕ) (xs : List ℕ) → (n ≡ 0 → ⊥) → AllByRecursion P (rows_from c w n xs) → P (drop c (take w xs))
+first_all P c w n xs some h = (subst (AllByRecursion P) (rows_first c w n xs some) h).0
 
 -- after a write to the part from w on
 pub drop_part : (w k : ℕ) (xs ys : List ℕ) → w ≤ length xs → length xs - w ≤ k → drop w (put_mid w k xs ys) ≡ ys
@@ -88,10 +88,10 @@ module _ (first others first' rest' : List ℕ) (n k : ℕ) (some : n ≡ 0 → 
       (subst (λ z. Exchanged (first ∷ (take (length first) others ∷ rows_from 0 (length first) (n - 1) (drop (length first) others))) (first' ∷ z))
       (sym (rows_later 0 (length first) n k others rest' some (first_fits n (length first) (length others) some long) past)) e)
 
-  pub missing_later : (c : ℕ) → length others - length first ≤ k → c < length first → get_or others c 0 ≡ 0 → All (λ row. get_or row c 0 ≡ 0) (first ∷ rows_from 0 (length first) (n - 1) (take k (drop (length first) others))) → All (λ row. get_or row c 0 ≡ 0) (first ∷ rows_from 0 (length first) n others)
+  pub missing_later : (c : ℕ) → length others - length first ≤ k → c < length first → get_or others c 0 ≡ 0 → AllByRecursion (λ row. get_or row c 0 ≡ 0) (first ∷ rows_from 0 (length first) (n - 1) (take k (drop (length first) others))) → AllByRecursion (λ row. get_or row c 0 ≡ 0) (first ∷ rows_from 0 (length first) n others)
   missing_later c past h z (a, b) =
       let part = take_all k (drop (length first) others) (let e = length-drop (length first) others in omega arith) in
-      (a, subst (All (λ row. get_or row c 0 ≡ 0)) (sym (rows_first 0 (length first) n others some)) (get_or-take (length first) others c 0 h ∙ z, subst (λ w. All (λ row. get_or row c 0 ≡ 0) (rows_from 0 (length first) (n - 1) w)) part b))
+      (a, subst (AllByRecursion (λ row. get_or row c 0 ≡ 0)) (sym (rows_first 0 (length first) n others some)) (get_or-take (length first) others c 0 h ∙ z, subst (λ w. AllByRecursion (λ row. get_or row c 0 ≡ 0) (rows_from 0 (length first) (n - 1) w)) part b))
 
 -- a function of each row, done for the first row and then for the others
 module _ (h : List ℕ → List ℕ) (c w n k : ℕ) (rows row' rest' : List ℕ) (some : n ≡ 0 → ⊥) (long : length rows ≡ n * w) (long' : length row' ≡ w) (past : length (row' ++ drop w rows) - w ≤ k) where
@@ -111,15 +111,15 @@ module _ (h : List ℕ → List ℕ) (c w n k : ℕ) (rows row' rest' : List ℕ
   pub rest_length : length (take k (drop w (row' ++ drop w rows))) ≡ (n - 1) * w
   rest_length = ap length rest_is ∙ length-drop w rows ∙ rest_long n w (length rows) some long
 
-  pub rest_all : (P : List ℕ → Type 0) → All P (rows_from c w n rows) → All P (rows_from c w (n - 1) (take k (drop w (row' ++ drop w rows))))
-  rest_all P h = subst (λ z. All P (rows_from c w (n - 1) z)) (sym rest_is) (subst (All P) (rows_first c w n rows some) h).1
+  pub rest_all : (P : List ℕ → Type 0) → AllByRecursion P (rows_from c w n rows) → AllByRecursion P (rows_from c w (n - 1) (take k (drop w (row' ++ drop w rows))))
+  rest_all P h = subst (λ z. AllByRecursion P (rows_from c w (n - 1) z)) (sym rest_is) (subst (AllByRecursion P) (rows_first c w n rows some) h).1
 
 -- the rows of the system for a word, the first row and the others
 pub rows_of_first : (F : Meaning) (row : ℕ → ℕ → List ℕ) (x : ℕ) (ys tail : List ℕ) → (length ys ≡ 0 → ⊥) → tail ≡ drop 1 ys → rows_of (numbers F) row (points_from x (length ys)) ys ≡ row x (get_or ys 0 0) ∷ rows_of (numbers F) row (points_from (x + 1) (length tail)) tail
 rows_of_first F row x [] tail some e = absurd (some refl)
 rows_of_first F row x (y ∷ ys) tail some e = ap₂ (λ k z. row x y ∷ rows_of (numbers F) row (points_from k (length z)) z) (sym (add-one x)) (sym e)
 
-pub rows_of_symbols : (F : Meaning) (row : ℕ → ℕ → List ℕ) → ((x y : ℕ) → x < F.q → y < F.q → Symbols F (row x y)) → (points ys : List ℕ) → Symbols F points → Symbols F ys → All (Symbols F) (rows_of (numbers F) row points ys)
+pub rows_of_symbols : (F : Meaning) (row : ℕ → ℕ → List ℕ) → ((x y : ℕ) → x < F.q → y < F.q → Symbols F (row x y)) → (points ys : List ℕ) → Symbols F points → Symbols F ys → AllByRecursion (Symbols F) (rows_of (numbers F) row points ys)
 rows_of_symbols F row h [] ys sp sy = tt
 rows_of_symbols F row h (x ∷ points) [] sp sy = tt
 rows_of_symbols F row h (x ∷ points) (y ∷ ys) (hx, sp) (hy, sy) = (h x y hx hy, rows_of_symbols F row h points ys sp sy)

@@ -1,7 +1,7 @@
 -- The points of the words, and the word of a polynomial. Assumes nothing.
 use Rattle.std.specs.Prelude.{◌≡◌, ℕ, zero, suc, ◌+◌, ◌<◌, ◌≤◌, ◌≢◌, List, [], ◌∷◌, ◌++◌, map, length, take, slice_set, refl}
 use Rattle.std.proofs.Common.{sym, ap, ap₂, ◌∙◌, add-zero, zero-add, add-one, arith}
-use Rattle.std.specs.List.{AllByRecursion as All}
+use Rattle.std.specs.List.{AllByRecursion}
 use Rattle.std.proofs.lemmas.List.{length-map, map_push, take_more_set, take_all}
 use Rattle.field.specs.Meaning.{Meaning}
 use Rattle.field.specs.Words.{value_at}
@@ -14,11 +14,11 @@ pub length_points : (i n : ℕ) → length (points_from i n) ≡ n
 length_points i zero = refl
 length_points i (suc n) = ap suc (length_points (suc i) n)
 
-pub points_below : (q i n : ℕ) → i + n ≤ q → All (λ x. x < q) (points_from i n)
+pub points_below : (q i n : ℕ) → i + n ≤ q → AllByRecursion (λ x. x < q) (points_from i n)
 points_below q i zero h = tt
 points_below q i (suc n) h = (omega arith, points_below q (suc i) n (omega arith))
 
-points_above : (j i n : ℕ) → j < i → All (λ y. j ≢ y) (points_from i n)
+points_above : (j i n : ℕ) → j < i → AllByRecursion (λ y. j ≢ y) (points_from i n)
 points_above j i zero h = tt
 points_above j i (suc n) h = ((λ e. omega arith), points_above j (suc i) n (omega arith))
 

@@ -1,6 +1,6 @@
 // The two systems of the corrector, one row for each point, and their solutions.
 ghost use Rattle.std.specs.Prelude.{◌≡◌, ◌+◌, ◌-◌, ◌*◌, ◌<◌, ◌≤◌, true, false, length};
-ghost use Rattle.std.specs.List.{AllByRecursion as All};
+ghost use Rattle.std.specs.List.{AllByRecursion};
 ghost use Rattle.algebra.specs.Correction.{power, powers_from, locator_row, message_row, locator_rows};
 ghost use Rattle.algebra.specs.Symbols.{numbers, Symbols};
 ghost use Rattle.reed_solomon.specs.Code.{points, points_from};
@@ -25,7 +25,7 @@ fn write_powers<F: Field>(f: &F, out: &mut [u8], a: u8, x: u8) -> u8
     p
 }
 
-// The equation typeof.y.E(x) = N(x), for E of degree t with leading coefficient 1 and N of n coefficients.
+// The equation y·E(x) = N(x), for E of degree t with leading coefficient 1 and N of n coefficients.
 fn write_locator_row<F: Field>(f: &F, row: &mut [u8], t: usize, n: usize, x: u8, y: u8)
     requires long { length row.old ≡ t + n + 1 }
     requires point { x < (F.Field.meaning f.now).q }
@@ -87,7 +87,7 @@ fn solve<F: Field>(f: &F, rows: &mut [u8], count: usize, w: usize, xs: &mut [u8]
     requires some { 1 ≤ count }
     requires width { w ≡ length xs.old + 1 }
     requires long { length rows.old ≡ count * w }
-    requires rows { All (Symbols (F.Field.meaning f.now)) (rows_from 0 w count rows.old) }
+    requires rows { AllByRecursion (Symbols (F.Field.meaning f.now)) (rows_from 0 w count rows.old) }
     requires unknowns { Symbols (F.Field.meaning f.now) xs.old }
     ensures { Outcome (F.Field.meaning f.now) (rows_from 0 w count rows.old) (length xs.old) result xs.new }
 {

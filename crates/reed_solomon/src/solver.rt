@@ -1,6 +1,6 @@
 // Linear equations over any field, solved in place. A row holds the coefficients and then the right-hand side.
 ghost use Rattle.std.specs.Prelude.{◌≡◌, ◌+◌, ◌*◌, ◌<◌, ◌≤◌, true, false, T, ◌∷◌, map, length, drop, ◌≢◌, slice_index};
-ghost use Rattle.std.specs.List.{AllByRecursion as All};
+ghost use Rattle.std.specs.List.{AllByRecursion};
 ghost use Rattle.field.specs.Meaning.{inverse_of, opposite_of};
 ghost use Rattle.field.specs.Words.{symbols, plus_scaled};
 ghost use Rattle.algebra.specs.Symbols.{numbers, Symbols};
@@ -16,7 +16,7 @@ fn bring(first: &mut [u8], others: &mut [u8], count: usize, c: usize) -> bool
     requires long { length others.old ≡ count * length first.old }
     ensures rows { Exchanged (first.old ∷ rows_from 0 (length first.old) count others.old) (first.new ∷ rows_from 0 (length first.old) count others.new) }
     ensures found { result ≡ true → slice_index first.new c ≢ 0 }
-    ensures missing { result ≡ false → All (λ row. slice_index row c ≡ 0) (first.old ∷ rows_from 0 (length first.old) count others.old) }
+    ensures missing { result ≡ false → AllByRecursion (λ row. slice_index row c ≡ 0) (first.old ∷ rows_from 0 (length first.old) count others.old) }
 {
     if first[c] != 0 {
         return true;
@@ -82,7 +82,7 @@ fn clear<F: Field>(f: &F, pivot: &[u8], inverse: u8, rows: &mut [u8], count: usi
     requires long { length rows.old ≡ count * length pivot.now }
     requires inverse { inverse ≡ inverse_of (F.Field.meaning f.now) (slice_index pivot.now c) }
     requires pivot { Symbols (F.Field.meaning f.now) (drop c pivot.now) }
-    requires rows { All (Symbols (F.Field.meaning f.now)) (rows_from c (length pivot.now) count rows.old) }
+    requires rows { AllByRecursion (Symbols (F.Field.meaning f.now)) (rows_from c (length pivot.now) count rows.old) }
     ensures { rows_from c (length pivot.now) count rows.new ≡ map (cleared (numbers (F.Field.meaning f.now)) (drop c pivot.now)) (rows_from c (length pivot.now) count rows.old) }
 {
     if count == 0 {
@@ -121,7 +121,7 @@ pub(crate) fn solve_from<F: Field>(
     requires width { length first.old ≡ c + length xs.old + 1 }
     requires long { length others.old ≡ count * length first.old }
     requires row { Symbols (F.Field.meaning f.now) (drop c first.old) }
-    requires rows { All (Symbols (F.Field.meaning f.now)) (rows_from c (length first.old) count others.old) }
+    requires rows { AllByRecursion (Symbols (F.Field.meaning f.now)) (rows_from c (length first.old) count others.old) }
     requires unknowns { Symbols (F.Field.meaning f.now) xs.old }
     ensures { Outcome (F.Field.meaning f.now) (drop c first.old ∷ rows_from c (length first.old) count others.old) (length xs.old) result xs.new }
 {

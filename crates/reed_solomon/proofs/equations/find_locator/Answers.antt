@@ -1,5 +1,5 @@
 use Rattle.std.proofs.Common.{◌≡◌, ℕ, ◌+◌, ◌-◌, ◌*◌, ◌≤◌, length, drop, sym, refl, ap, ◌∙◌, subst, arith}
-use Rattle.std.specs.List.{AllByRecursion as All}
+use Rattle.std.specs.List.{AllByRecursion}
 use Rattle.std.proofs.lemmas.List.{length-take-le, take_at}
 use Rattle.algebra.specs.Correction.{locator_row}
 use Rattle.algebra.specs.Symbols.{numbers, Symbols}
@@ -50,8 +50,8 @@ solve-requires g c =
       some = c.requires.word.0;
       width = refl;
       long = ap length part ∙ long;
-      rows = subst (λ z. All (Symbols F) (rows_from 0 (length xs + 1) (length ys) z)) (sym part)
-          (subst (All (Symbols F)) (sym (ap (λ w. rows_from 0 w (length ys) rows) (omega (arith, c.requires.few.0)) ∙ c.write_locator_rows.ensures)) (rows_of_symbols F (locator_row (numbers F) c.args.t (length xs - c.args.t)) (locator_row_symbols laws c.args.t (length xs - c.args.t)) (points (length ys)) ys (points_below F.q 0 (length ys) (omega (arith, c.requires.word.2))) c.requires.symbols));
+      rows = subst (λ z. AllByRecursion (Symbols F) (rows_from 0 (length xs + 1) (length ys) z)) (sym part)
+          (subst (AllByRecursion (Symbols F)) (sym (ap (λ w. rows_from 0 w (length ys) rows) (omega (arith, c.requires.few.0)) ∙ c.write_locator_rows.ensures)) (rows_of_symbols F (locator_row (numbers F) c.args.t (length xs - c.args.t)) (locator_row_symbols laws c.args.t (length xs - c.args.t)) (points (length ys)) ys (points_below F.q 0 (length ys) (omega (arith, c.requires.word.2))) c.requires.symbols));
       unknowns = c.requires.unknowns;
     }
 

@@ -1,5 +1,5 @@
 use Rattle.std.proofs.Common.{◌≡◌, ℕ, ◌+◌, ◌*◌, ◌≤◌, length, drop, sym, refl, ap, ◌∙◌, subst, arith}
-use Rattle.std.specs.List.{AllByRecursion as All}
+use Rattle.std.specs.List.{AllByRecursion}
 use Rattle.std.proofs.lemmas.List.{length-take-le, take_at}
 use Rattle.algebra.specs.Correction.{message_row}
 use Rattle.algebra.specs.Polynomials.{value}
@@ -52,8 +52,8 @@ solve-requires g c =
       some = c.requires.word.0;
       width = refl;
       long = ap length part ∙ long;
-      rows = subst (λ z. All (Symbols F) (rows_from 0 (length xs + 1) (length ys) z)) (sym part)
-          (subst (All (Symbols F)) (sym c.write_message_rows.ensures) (rows_of_symbols F (λ x y. message_row (numbers F) (length xs) (value (numbers F) c.args.locator.now x) x y) (λ x y hx hy. message_row_symbols laws (length xs) _ x y (value_symbol F laws c.args.locator.now x c.requires.locator hx) hx hy) (points (length ys)) ys (points_below F.q 0 (length ys) (omega (arith, c.requires.word.2))) c.requires.symbols));
+      rows = subst (λ z. AllByRecursion (Symbols F) (rows_from 0 (length xs + 1) (length ys) z)) (sym part)
+          (subst (AllByRecursion (Symbols F)) (sym c.write_message_rows.ensures) (rows_of_symbols F (λ x y. message_row (numbers F) (length xs) (value (numbers F) c.args.locator.now x) x y) (λ x y hx hy. message_row_symbols laws (length xs) _ x y (value_symbol F laws c.args.locator.now x c.requires.locator hx) hx hy) (points (length ys)) ys (points_below F.q 0 (length ys) (omega (arith, c.requires.word.2))) c.requires.symbols));
       unknowns = c.requires.unknowns;
     }
 

@@ -1,5 +1,5 @@
 use Rattle.std.proofs.Common.{◌≡◌, ◌-◌, ◌*◌, length, sym, ap, ◌∙◌, subst, arith}
-use Rattle.std.specs.List.{AllByRecursion as All}
+use Rattle.std.specs.List.{AllByRecursion}
 use Rattle.algebra.specs.Symbols.{Symbols}
 use Rattle.reed_solomon.specs.Rows.{Outcome}
 use Rattle.reed_solomon.proofs.Rowwise.{first_fits, rest_long, split_rows}
@@ -16,7 +16,7 @@ solve_from-requires g c =
     let others = c.split_at_mut-first.result.1.now in
     let rows = c.args.rows.now in
     let some : c.args.count ≡ 0 → ⊥ = λ e. omega (arith, c.requires.some) in
-    let good = subst (All (Symbols F)) (split_rows c.args.w c.args.count rows first others some parts.value parts.front_len) c.requires.rows in
+    let good = subst (AllByRecursion (Symbols F)) (split_rows c.args.w c.args.count rows first others some parts.value parts.front_len) c.requires.rows in
     record {
       width = parts.front_len ∙ omega (arith, c.requires.width);
       long = (let e : length others ≡ length rows - c.args.w = omega (arith, parts.back_len) in e ∙ rest_long c.args.count c.args.w (length rows) some c.requires.long ∙ ap (λ k. (c.args.count - 1) * k) (sym parts.front_len));
