@@ -16,7 +16,6 @@ SIGNATURE = re.compile(r"^\s*(?:abbrev |unfoldable |instance |axiom |mutual )*(?
 LET = re.compile(r"\blet ([^\s(){}\[\];,.:\"]+)(?: :[^=]*)? = ")
 BOUND = re.compile(r"[({]((?:[^\s(){}\[\];,.:\"=]+ )+): ")
 LAMBDA = re.compile(r"λ ((?:[^\s(){}\[\];,.:\"=]+ )*[^\s(){}\[\];,.:\"=]+)\. ")
-FIELD_VALUE = re.compile(r"^\s*([^\s(){}\[\];,.:\"=]+) = ")
 OUTSIDE = re.compile(r"^\s*(?:ghost )?use (?:Rattle\.std|lib|native|mathlib|Prim|core)\b[^{]*\.\{([^}]*)\}")
 CLAUSE = re.compile(r"\b(?:ghost|requires|ensures|invariant)\b|^\s*\S.*\}$")
 

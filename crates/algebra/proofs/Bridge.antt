@@ -55,8 +55,8 @@ module _ (F : Meaning) (laws : IsField F) where
   pub product_inverse : (a : ℕ) → a < F.q → a ≢ 0 → F.product a (inverse_of F a) ≡ 1
   product_inverse a h n = (inverse_exact laws a h n).holds
 
-  pub below-same? : (a b : Below F.q) → Dec (a ≡ b)
-  below-same? = Σ_prop_discrete (λ (n : ℕ). le_prop {n = suc n} {m = F.q}) ℕ_discrete
+  pub below_same? : (a b : Below F.q) → Dec (a ≡ b)
+  below_same? = Σ_prop_discrete (λ (n : ℕ). le_prop {n = suc n} {m = F.q}) ℕ_discrete
 
   abbrev pub over_ops : Ops (Below F.q)
   over_ops = record {
@@ -82,7 +82,7 @@ module _ (F : Meaning) (laws : IsField F) where
     product_inv = λ a n. val_injective (product_inverse (val a) a.1 (λ z. n (val_injective z)));
     distributive = λ a b c. val_injective (laws.distributive (val a) (val b) (val c) a.1 b.1 c.1);
     one_not_zero = λ e. let z : ◌≡◌ {A = ℕ} 1 0 = ap (λ (a : Below F.q). val a) e in omega arith;
-    same? = below-same?;
+    same? = below_same?;
   }
 
   pub vals_tos : (xs : List ℕ) → AllByRecursion (λ x. x < F.q) xs → map val (map to xs) ≡ xs

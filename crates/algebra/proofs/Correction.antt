@@ -9,7 +9,7 @@ use Rattle.algebra.specs.Polynomials.{Different, value, values, convolve, monic,
 use Rattle.field.specs.Places.{unless}
 use Rattle.algebra.specs.Distance.{told, same_in, is_zero, distance_in}
 use Rattle.algebra.specs.Correction.{Located, Agrees}
-use Rattle.algebra.proofs.Ring.{ring, ⊕-zero, ⊕-neg, zero-⊙, ⊙-comm, ⊙-cancel}
+use Rattle.algebra.proofs.Ring.{ring, ⊕-zero, ⊕-neg, zero-⊙, ⊙_comm, ⊙_cancel}
 use Rattle.algebra.proofs.Vectors.{length_plus}
 use Rattle.algebra.proofs.Polynomials.{value_plus, value_zeros, value_product, length_product, value_with_root, length_with_root, zeros_replicate, polynomials_equal}
 use Rattle.algebra.proofs.Distance.{told_yes, told_no, passing_failing, passing_not}
@@ -131,7 +131,7 @@ module _ {K : Type 0} (F : FieldOn K) where
         each_map
             (λ x y. value A (monic A L.lower) x ⊙ value A g x ≡ value A (monic A L.lower) x ⊙ y)
             (λ x y. y ⊙ value A (monic A L.lower) x ≡ value A (filled (length g + t) g L.lower) x)
-            (λ x y k. ⊙-comm F y _ ∙ sym k ∙ ⊙-comm F _ _ ∙ sym (value_filled (length g + t) g L.lower x))
+            (λ x y k. ⊙_comm F y _ ∙ sym k ∙ ⊙_comm F _ _ ∙ sym (value_filled (length g + t) g L.lower x))
             points ys L.agrees,
       )
 
@@ -159,7 +159,7 @@ module _ {K : Type 0} (F : FieldOn K) where
       each_map
       (λ x y. y ⊙ value A (monic A l) x ≡ value A N x)
       (λ x y. value A (monic A l) x ⊙ value A g x ≡ value A (monic A l) x ⊙ y)
-      (λ x y k. ⊙-comm F _ _ ∙ sym (value_filled (length g + t) g l x) ∙ ap (λ z. value A z x) (sym n) ∙ sym k ∙ ⊙-comm F y _)
+      (λ x y k. ⊙_comm F _ _ ∙ sym (value_filled (length g + t) g l x) ∙ ap (λ z. value A z x) (sym n) ∙ sym k ∙ ⊙_comm F y _)
       points ys loc
 
   agree_off_zeros : (f g points ys l : List K) → Agrees A points ys l f → Agrees A points ys l g → AllZip (λ x y. T (not (is_zero F (value A (monic A l) x))) → value A f x ≡ value A g x) points points
@@ -172,7 +172,7 @@ module _ {K : Type 0} (F : FieldOn K) where
       (λ x y. value A (monic A l) x ⊙ value A f x ≡ value A (monic A l) x ⊙ y)
       (λ x y. value A (monic A l) x ⊙ value A g x ≡ value A (monic A l) x ⊙ y)
       (λ x y. T (not (is_zero F (value A (monic A l) x))) → value A f x ≡ value A g x)
-      (λ x y p q s. ⊙-cancel F (told_no (F.same? (value A (monic A l) x) 𝟘) s) (p ∙ sym q))
+      (λ x y p q s. ⊙_cancel F (told_no (F.same? (value A (monic A l) x) 𝟘) s) (p ∙ sym q))
       points ys a b)
       (λ x y h. h))
 

@@ -9,7 +9,7 @@ use Rattle.algebra.specs.Polynomials.{Different}
 use Rattle.algebra.specs.Distance.{passing, is_zero}
 use Rattle.algebra.specs.Systems.{lead, rest, cleared}
 use Rattle.algebra.specs.Matrices.{Nonsingular, reduced, Reducible}
-use Rattle.algebra.proofs.Ring.{ring, ⊕-zero, zero-⊕, ⊙-zero, ⊙-comm, product_zero}
+use Rattle.algebra.proofs.Ring.{ring, ⊕-zero, zero-⊕, ⊙-zero, ⊙_comm, product_zero}
 use Rattle.algebra.proofs.Vectors.{dot_comm, dot_plus_right, dot_times_right, dot_zeros, getD_combination}
 use Rattle.algebra.proofs.Systems.{rest_plus, rest_times}
 use Rattle.algebra.proofs.Distance.{told_yes}
@@ -113,7 +113,7 @@ module _ {K : Type 0} (F : FieldOn K) where
         = k.1 js cs (omega arith) (omega arith) d
         (all_both In (λ j. p ≢ j) (λ j. In j × (j ≢ p)) (λ j a b. (a, (λ q. b (sym q)))) js ins n)
         (all_each (λ j. dot A (c ∷ cs) (column j) ≡ 𝟘) (λ j. dot A cs (reduced A column p j) ≡ 𝟘) (λ j q. zero_reduced c cs (column p) (column j) k.0 z q) js zs) in
-        (product_zero F k.0 (⊙-comm F (lead A (column p)) c ∙ sym (⊕-zero F _) ∙ ap (λ w. c ⊙ lead A (column p) ⊕ w) (sym (dot_zeros F cs (rest A (column p)) below)) ∙ sym (dot_lead c cs (column p)) ∙ z), below)
+        (product_zero F k.0 (⊙_comm F (lead A (column p)) c ∙ sym (⊕-zero F _) ∙ ap (λ w. c ⊙ lead A (column p) ⊕ w) (sym (dot_zeros F cs (rest A (column p)) below)) ∙ sym (dot_lead c cs (column p)) ∙ z), below)
 
     -- The test by elimination is the definition.
     pub nonsingular_reducible : (s : ℕ) (column : I → List K) (In : I → Type 0) → Nonsingular A s column In → Reducible A s column In

@@ -4,7 +4,7 @@ use Rattle.std.specs.List.{AllByRecursion}
 use Rattle.algebra.specs.FieldOn.{Ops, FieldOn}
 use Rattle.algebra.specs.Vectors.{plus, times, opposite, minus, Zeros}
 use Rattle.algebra.specs.Polynomials.{Different, value, values, convolve, monic, with_root, quotient}
-use Rattle.algebra.proofs.Ring.{ring, ⊕-zero, zero-⊕, ⊙-zero, ⊙-comm, equal_from_difference, difference_zero, product_zero}
+use Rattle.algebra.proofs.Ring.{ring, ⊕-zero, zero-⊕, ⊙-zero, ⊙_comm, equal_from_difference, difference_zero, product_zero}
 use Rattle.algebra.proofs.Vectors.{length_times, length_plus, length_minus, minus_zeros}
 use Rattle.algebra.proofs.Everywhere.{all_both}
 
@@ -52,7 +52,7 @@ module _ {K : Type 0} (F : FieldOn K) where
   product_step c x v w = simp ring
 
   pub value_product : (f g : List K) (x : K) → value A (convolve A f g) x ≡ value A f x ⊙ value A g x
-  value_product [] g x = sym (⊙-zero F _) ∙ ⊙-comm F _ _
+  value_product [] g x = sym (⊙-zero F _) ∙ ⊙_comm F _ _
   value_product (c ∷ f) g x =
       value_plus (times A c g) (𝟘 ∷ convolve A f g) x
       ∙ ap (λ w. w ⊕ (𝟘 ⊕ x ⊙ value A (convolve A f g) x)) (value_times c g x)

@@ -5,7 +5,7 @@ use Rattle.std.proofs.ByRecursion.{All-map}
 use Rattle.algebra.specs.FieldOn.{Ops, FieldOn}
 use Rattle.algebra.specs.Vectors.{plus, times, dot}
 use Rattle.algebra.specs.Systems.{Meets, Solves, Solvable, lead, rest, cleared, head_unknown, Cleared}
-use Rattle.algebra.proofs.Ring.{ring, ⊕-zero, zero-⊕, ⊙-zero, zero-⊙, ⊙-inv-left, solved}
+use Rattle.algebra.proofs.Ring.{ring, ⊕-zero, zero-⊕, ⊙-zero, zero-⊙, ⊙-inv_left, solved}
 use Rattle.algebra.proofs.Vectors.{plus_nil, dot_plus, dot_times, getD_plus, getD_times}
 use Rattle.algebra.proofs.Everywhere.{all_each, all_both}
 
@@ -135,7 +135,7 @@ module _ {K : Type 0} (F : FieldOn K) where
   pub meets_pivot : (p : List K) (x : K) (xs : List K) → lead A p ≢ 𝟘 → Meets A p (x ∷ xs) ↔ (x ≡ head_unknown A p xs)
   meets_pivot p x xs n = (
     (λ h. solved F n (head_step (lead A p) x (dot A (rest A p) xs) (get_or (rest A p) (length xs) 𝟘) ((meets_cons p x xs).0 h))),
-    (λ h. (meets_cons p x xs).1 (head_back (lead A p) x (dot A (rest A p) xs) (get_or (rest A p) (length xs) 𝟘) (ap (λ z. lead A p ⊙ z) h ∙ ⊙-inv-left F (lead A p) _ n))),
+    (λ h. (meets_cons p x xs).1 (head_back (lead A p) x (dot A (rest A p) xs) (get_or (rest A p) (length xs) 𝟘) (ap (λ z. lead A p ⊙ z) h ∙ ⊙-inv_left F (lead A p) _ n))),
   )
 
   cleared_step : (a b i : K) → b ⊙ i ≡ 𝟙 → a ⊕ ⊖ (a ⊙ i) ⊙ b ≡ 𝟘

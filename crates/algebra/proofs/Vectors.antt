@@ -3,7 +3,7 @@ use Rattle.std.proofs.Common.{◌≡◌, ℕ, zero, suc, ◌≤◌, max, List, [
 use Rattle.std.specs.List.{AllByRecursion}
 use Rattle.algebra.specs.FieldOn.{Ops, FieldOn}
 use Rattle.algebra.specs.Vectors.{plus, times, opposite, minus, total, dot, combination, plus_each, Zeros}
-use Rattle.algebra.proofs.Ring.{ring, ⊕-comm, ⊕-assoc, ⊕-zero, zero-⊕, ⊙-zero, zero-⊙, ⊙-⊕, ⊙-comm, ⊙-assoc, one-⊙, ⊕-neg, neg_zero, equal_from_difference}
+use Rattle.algebra.proofs.Ring.{ring, ⊕_comm, ⊕_assoc, ⊕-zero, zero-⊕, ⊙-zero, zero-⊙, ⊙-⊕, ⊙_comm, ⊙_assoc, one-⊙, ⊕-neg, neg_zero, equal_from_difference}
 
 -- equal heads and tails
 pub cons_path : {X : Type 0} {x y : X} {xs ys : List X} → x ≡ y → xs ≡ ys → ◌≡◌ {A = List X} (x ∷ xs) (y ∷ ys)
@@ -27,13 +27,13 @@ module _ {K : Type 0} (F : FieldOn K) where
   pub plus_comm : (xs ys : List K) → plus A xs ys ≡ plus A ys xs
   plus_comm [] ys = sym (plus_nil ys)
   plus_comm (x ∷ xs) [] = refl
-  plus_comm (x ∷ xs) (y ∷ ys) = cons_path (⊕-comm F x y) (plus_comm xs ys)
+  plus_comm (x ∷ xs) (y ∷ ys) = cons_path (⊕_comm F x y) (plus_comm xs ys)
 
   pub plus_assoc : (xs ys zs : List K) → plus A (plus A xs ys) zs ≡ plus A xs (plus A ys zs)
   plus_assoc [] ys zs = refl
   plus_assoc (x ∷ xs) [] zs = refl
   plus_assoc (x ∷ xs) (y ∷ ys) [] = refl
-  plus_assoc (x ∷ xs) (y ∷ ys) (z ∷ zs) = cons_path (⊕-assoc F x y z) (plus_assoc xs ys zs)
+  plus_assoc (x ∷ xs) (y ∷ ys) (z ∷ zs) = cons_path (⊕_assoc F x y z) (plus_assoc xs ys zs)
 
   pub plus_swap : (a b c d : List K) → plus A (plus A a b) (plus A c d) ≡ plus A (plus A a c) (plus A b d)
   plus_swap a b c d =
@@ -52,7 +52,7 @@ module _ {K : Type 0} (F : FieldOn K) where
 
   pub times_times : (a b : K) (xs : List K) → times A a (times A b xs) ≡ times A (a ⊙ b) xs
   times_times a b [] = refl
-  times_times a b (x ∷ xs) = cons_path (sym (⊙-assoc F a b x)) (times_times a b xs)
+  times_times a b (x ∷ xs) = cons_path (sym (⊙_assoc F a b x)) (times_times a b xs)
 
   pub times_one : (xs : List K) → times A 𝟙 xs ≡ xs
   times_one [] = refl
@@ -122,7 +122,7 @@ module _ {K : Type 0} (F : FieldOn K) where
   pub dot_comm : (xs ys : List K) → dot A xs ys ≡ dot A ys xs
   dot_comm [] ys = sym (dot_nil ys)
   dot_comm (x ∷ xs) [] = refl
-  dot_comm (x ∷ xs) (y ∷ ys) = ap (λ z. z ⊕ dot A xs ys) (⊙-comm F x y) ∙ ap (λ z. y ⊙ x ⊕ z) (dot_comm xs ys)
+  dot_comm (x ∷ xs) (y ∷ ys) = ap (λ z. z ⊕ dot A xs ys) (⊙_comm F x y) ∙ ap (λ z. y ⊙ x ⊕ z) (dot_comm xs ys)
 
   dot_plus_step : (x y z a b : K) → (x ⊕ y) ⊙ z ⊕ (a ⊕ b) ≡ x ⊙ z ⊕ a ⊕ (y ⊙ z ⊕ b)
   dot_plus_step x y z a b = simp ring
@@ -160,7 +160,7 @@ module _ {K : Type 0} (F : FieldOn K) where
   dot_append [] ds [] ys e = sym (zero-⊕ F _)
   dot_append [] ds (x ∷ xs) ys e = absurd (omega arith)
   dot_append (a ∷ cs) ds [] ys e = absurd (omega arith)
-  dot_append (a ∷ cs) ds (x ∷ xs) ys e = ap (λ w. a ⊙ x ⊕ w) (dot_append cs ds xs ys (omega arith)) ∙ sym (⊕-assoc F _ _ _)
+  dot_append (a ∷ cs) ds (x ∷ xs) ys e = ap (λ w. a ⊙ x ⊕ w) (dot_append cs ds xs ys (omega arith)) ∙ sym (⊕_assoc F _ _ _)
 
   -- a combination meets a vector as its parts do
   pub dot_combination : (cs : List K) (vs : List (List K)) (ys : List K) → dot A (combination A cs vs) ys ≡ dot A cs (map (λ v. dot A v ys) vs)
@@ -210,7 +210,7 @@ module _ {K : Type 0} (F : FieldOn K) where
   combination_times_each c [] vs = refl
   combination_times_each c (d ∷ cs) [] = refl
   combination_times_each c (d ∷ cs) (v ∷ vs) =
-      ap (λ z. plus A z (combination A cs (map (times A c) vs))) (times_times d c v ∙ ap (λ z. times A z v) (⊙-comm F d c) ∙ sym (times_times c d v))
+      ap (λ z. plus A z (combination A cs (map (times A c) vs))) (times_times d c v ∙ ap (λ z. times A z v) (⊙_comm F d c) ∙ sym (times_times c d v))
       ∙ ap (plus A (times A c (times A d v))) (combination_times_each c cs vs)
       ∙ sym (times_plus c (times A d v) (combination A cs vs))
 
@@ -235,4 +235,4 @@ module _ {K : Type 0} (F : FieldOn K) where
 
   pub total_append : (xs ys : List K) → total A (xs ++ ys) ≡ total A xs ⊕ total A ys
   total_append [] ys = sym (zero-⊕ F _)
-  total_append (x ∷ xs) ys = ap (λ w. x ⊕ w) (total_append xs ys) ∙ sym (⊕-assoc F x (total A xs) (total A ys))
+  total_append (x ∷ xs) ys = ap (λ w. x ⊕ w) (total_append xs ys) ∙ sym (⊕_assoc F x (total A xs) (total A ys))

@@ -13,7 +13,7 @@ use Rattle.chain.proofs.Searching.{In, all_words_has, all_words_are, first_that_
 
 module _ {C : Meaning} (lawful : IsChain C) (i : ℕ) (level : Level C i) where
   pub one_near : (b v w : List ℕ) → OfLevel C i v → OfLevel C i w → differing v b ≤ radius (C.distance i) → differing w b ≤ radius (C.distance i) → v ≡ w
-  one_near b v w hv hw near-v near-w = nearest_only_half eqb eqb_tells (OfLevel C i) (C.distance i) (lawful.distance_least i level) (lawful.apart i level) b v w hv hw near-v near-w
+  one_near b v w hv hw near_v near_w = nearest_only_half eqb eqb_tells (OfLevel C i) (C.distance i) (lawful.distance_least i level) (lawful.apart i level) b v w hv hw near_v near_w
 
   pub message_added : (xs ys : List ℕ) → Message C i xs → Message C i ys → Message C i (added C.field xs ys)
   message_added xs ys hx hy = record { long = length_added C.field xs ys ∙ hx.long; all = added_closed lawful.over_field xs ys hx.all hy.all }

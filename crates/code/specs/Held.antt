@@ -14,4 +14,4 @@ holding C l a = record { chain = C; l = l; matrix = held a }
 
 -- what a code means, where its chain's type says what a chain means
 abbrev pub meant : {C : Type 0} → (C → chains.Meaning) → Code C → Meaning
-meant chain-meaning c = holding (chain-meaning c.chain) c.l c.matrix
+meant chain_meaning c = holding (chain_meaning c.chain) c.l c.matrix

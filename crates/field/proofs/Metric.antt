@@ -116,8 +116,8 @@ module _ {X : Type 0} (same : X → X → Bool) (tells : Tells same) where
       (λ p q. subst (λ w. T (same x w)) (tells.equal y z q) p)
       (triangle xs ys zs)
 
-  pub words-same? : (xs ys : List X) → Dec (xs ≡ ys)
-  words-same? xs ys = go (ℕ_discrete (distance_by same xs ys) 0)
+  pub words_same? : (xs ys : List X) → Dec (xs ≡ ys)
+  words_same? xs ys = go (ℕ_discrete (distance_by same xs ys) 0)
     where
       go : Dec (distance_by same xs ys ≡ 0) → Dec (xs ≡ ys)
       go (yes e) = yes (distance_zero xs ys e)
@@ -125,7 +125,7 @@ module _ {X : Type 0} (same : X → X → Bool) (tells : Tells same) where
 
   -- In a set of words whose different members have distance at least d, at most one lies within t of a word, if 2t < d.
   pub nearest_only : (C : List X → Type 0) (d t : ℕ) → ((u v : List X) → C u → C v → u ≢ v → d ≤ distance_by same u v) → t + t < d → (y u v : List X) → C u → C v → distance_by same u y ≤ t → distance_by same v y ≤ t → u ≡ v
-  nearest_only C d t apart l y u v cu cv a b = go (words-same? u v)
+  nearest_only C d t apart l y u v cu cv a b = go (words_same? u v)
     where
       go : Dec (u ≡ v) → u ≡ v
       go (yes e) = e

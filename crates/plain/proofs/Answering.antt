@@ -79,10 +79,10 @@ module _ {F : fields.Meaning} (lawful : IsField F) (m : ℕ) (ks : List ℕ) (no
         as_sound (λ C. Corrects C i b scratch r kept scratch) (corrected_sound b scratch word enough r kept (subst (λ l. BlockCorrected F l b r kept) same h))
 
     stripped_sound : (b out : List ℕ) → Word F m b → length out ≡ kind_size m (kind_at ks i) → (r : Result (Unit {0}) Refusal) (kept : List ℕ) → BlockStripped F (kind_at ks i) b out r kept → Strips (sound F m ks) i b out r kept
-    stripped_sound b out word long (Ok _) kept (fit, is-message) =
+    stripped_sound b out word long (Ok _) kept (fit, is_message) =
         let chain = is_chain lawful m ks formed in
         let size = kind_size m (kind_at ks i) in
-        let message : kept ≡ take size b = is-message ∙ ap (λ n. take (kind_size n (kind_at ks i)) b) word.long in
+        let message : kept ≡ take size b = is_message ∙ ap (λ n. take (kind_size n (kind_at ks i)) b) word.long in
         let found = message_of_is chain i level b (take size b) (kinds.taken lawful m two (kind_at ks i) b word) (kinds.fits_word lawful m two (kind_at ks i) b word fit) in
         subst (λ v. Strips (sound F m ks) i b out (Ok tt) v) (sym message) (strip_done (sound F m ks) i b out (take size b) refl level word long found)
     stripped_sound b out word long (Err e) kept (cause, stays, unfit) =

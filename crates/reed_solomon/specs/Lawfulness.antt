@@ -7,7 +7,7 @@ use Rattle.refusal.specs.declared.Refusal.{Refusal}
 use Rattle.field.specs.Meaning.{Meaning, IsField}
 use Rattle.field.specs.Places.{distance as differing}
 use Rattle.field.specs.Words.{symbols, added, scaled}
-use Rattle.field.proofs.Metric.{eqb_tells, distance_itself, words-same?}
+use Rattle.field.proofs.Metric.{eqb_tells, distance_itself, words_same?}
 use Rattle.field.proofs.Unique.{zero_small}
 use Rattle.field.proofs.Vectors.{symbols_replicate, symbols_append}
 use Rattle.algebra.specs.Symbols.{numbers, Symbols}
@@ -64,7 +64,7 @@ module _ (F : Meaning) (laws : IsField F) (m : ℕ) (room : m ≤ F.q) where
 
   pub word_injective : (xs ys : List ℕ) → length xs ≡ length ys → length xs ≤ m → T (symbols F.q xs) → T (symbols F.q ys) → rs_word F m xs ≡ rs_word F m ys → xs ≡ ys
   word_injective xs ys e few tx ty same =
-      elim (words-same? nat_eq eqb_tells xs ys) [
+      elim (words_same? nat_eq eqb_tells xs ys) [
         | yes p ↦ p
         | no ne ↦
             let far = words_apart xs ys e tx ty ne in

@@ -21,8 +21,8 @@ ok_some (Some y) x e = cc
 -- the name and the numbers are read, and the command is that of the two
 pub command_read : (r : Result Command Unread) (o : Option Name) (ns : Option (List ℕ)) (n : Name) (ms ks : List ℕ) →
     ◌≡◌ {A = Result Name Unread} (Ok n) (ok_or o NotUnderstood) → Some ms ≡ ns → ks ≡ ms → Reads view r (asked n ks) → Reads view r (called o ns)
-command_read r o ns n ms ks is_name is-numbers same h =
-    subst (Reads view r) (ap (asked n) same ∙ ap (λ x. called x (Some ms)) (ok_some o n is_name) ∙ ap (called o) is-numbers) h
+command_read r o ns n ms ks is_name is_numbers same h =
+    subst (Reads view r) (ap (asked n) same ∙ ap (λ x. called x (Some ms)) (ok_some o n is_name) ∙ ap (called o) is_numbers) h
 
 -- no numbers, no command
 pub numbers_unread : {X : Type 0} (f : X → List ℕ) (e : Unread) (o : Option Name) (ns : Option (List ℕ)) → Reads f (Err e) ns → Reads view (Err e) (called o ns)
