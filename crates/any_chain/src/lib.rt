@@ -3,11 +3,10 @@
 
 ghost use Rattle.std.specs.Prelude.{◌≡◌};
 ghost use Rattle.any_field.specs.Kinds.{meant};
-ghost use Rattle.plain.specs.Kinds.{plain as plain_of_lem};
+ghost use Rattle.plain.specs.Kinds.{plain as plain_of};
 ghost use Rattle.reed_solomon.specs.Code.{reed_solomon as reed_solomon_of};
 ghost use Rattle.any_chain.specs.Kinds.{chain_meant};
 ghost use Rattle.any_field.specs.Inside.{meant_field};
-ghost use Rattle.chain.specs.Held.{held};
 ghost use Rattle.plain.specs.Lawful.{is_lawful};
 ghost use Rattle.reed_solomon.specs.Lawfulness.{chain_lawful};
 ghost use Rattle.any_chain.specs.declared.AnyChain.TheVariants.{Plain, ReedSolomon};
@@ -18,7 +17,8 @@ use plain::Plain;
 use reed_solomon::ReedSolomon;
 use refusal::Refusal;
 
-#[derive(Clone, Copy)]
+// Each method asks the chain inside: the two kinds are closed, so an enum serves, and needs no heap as a trait object would.
+#[derive(Clone, Copy, PartialEq, Eq, Debug)]
 pub enum AnyChain {
     Plain(Plain<AnyField>),
     ReedSolomon(ReedSolomon<AnyField>),
@@ -26,7 +26,7 @@ pub enum AnyChain {
 
 impl AnyChain {
     pub fn plain(field: AnyField, m: usize, kinds: &[u8]) -> AnyChain
-        ensures { chain_meant result ≡ plain_of_lem (meant field) m kinds.now }
+        ensures { chain_meant result ≡ plain_of (meant field) m kinds.now }
     {
         AnyChain::Plain(Plain::new(field, m, kinds))
     }
@@ -45,8 +45,8 @@ impl Chain for AnyChain {
 
     // the laws are those of the chain inside
     ghost lawful = { elim [
-      | Plain c ↦ is_lawful (meant_field c.field) c.m (held c.kinds)
-      | ReedSolomon c ↦ chain_lawful (meant c.field) (meant_field c.field) c.m (held c.sizes)
+      | Plain c ↦ is_lawful (meant_field c.field) c.m c.kinds
+      | ReedSolomon c ↦ chain_lawful (meant c.field) (meant_field c.field) c.m c.sizes
     ] };
 
     fn flaw(&self) -> Option<Refusal> {

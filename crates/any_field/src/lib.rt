@@ -11,7 +11,8 @@ use gf16::Gf16;
 use gfp::GfP;
 use refusal::Refusal;
 
-#[derive(Clone, Copy)]
+// Each method asks the field inside: the two kinds are closed, so an enum serves, and needs no heap as a trait object would.
+#[derive(Clone, Copy, PartialEq, Eq, Debug)]
 pub enum AnyField {
     Sixteen(Gf16),
     Prime(GfP),

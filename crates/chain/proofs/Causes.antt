@@ -1,5 +1,5 @@
 -- The answers of a chain, by what its checks and its search found. Assumes nothing.
-use Rattle.std.proofs.Common.{◌≡◌, ℕ, ◌-◌, ◌/◌, ◌<◌, ◌≤◌, Bool, true, false, ◌&&◌, T, eqb, leb, List, length, is_some, Some, None, Ok, Err, Option, Result, unwrap_or, sym, refl, ap, ◌∙◌, subst, arith, le→leb, eqb→eq, leb→le}
+use Rattle.std.proofs.Common.{◌≡◌, ℕ, ◌<◌, ◌≤◌, Bool, true, false, ◌&&◌, T, eqb, leb, List, length, is_some, Some, None, Ok, Err, Option, unwrap_or, sym, refl, ap, ◌∙◌, subst, arith, le→leb, eqb→eq, leb→le}
 use lib.Dec.{eqb_refl}
 use Rattle.std.specs.Option.{option_map, option_or}
 use Rattle.refusal.specs.declared.Refusal.{Refusal}
@@ -7,20 +7,9 @@ use Rattle.refusal.specs.declared.Refusal.TheVariants.{BadArgument, NoLevelWord,
 use Rattle.field.specs.Words.{symbols}
 use Rattle.field.proofs.Accepted.{both_hold}
 use Rattle.field.proofs.Tests.{both_left, both_right}
-use Rattle.chain.specs.Answers.{answer, left, unless, told_of_level, is_level, is_word, encode_cause, early_cause, correct_cause, strip_cause, scratch_bytes, message_near, message_of, word_near}
+use Rattle.chain.specs.Answers.{answer, left, unless, is_level, is_word, encode_cause, early_cause, correct_cause, strip_cause, scratch_bytes, message_near, message_of, word_near}
 use Rattle.chain.specs.Calls.{Encodes, Corrects, Strips}
-use Rattle.chain.specs.Meaning.{Meaning, Level, Word, radius}
-
--- an answer about a distance tells the one about its radius
-pub told_radius : (f : Option Refusal) (there : Bool) (d v : ℕ) → ◌≡◌ {A = Result ℕ Refusal} (Ok v) (told_of_level f there d) → ◌≡◌ {A = Result ℕ Refusal} (Ok ((v - 1) / 2)) (told_of_level f there (radius d))
-told_radius None true d v e = let same : v ≡ d = cc in ap (λ x. Ok ((x - 1) / 2)) same
-told_radius None false d v e = absurd (let z : ◌≡◌ {A = ℕ} 0 1 = cc in omega arith)
-told_radius (Some r) there d v e = let same : v ≡ 0 = cc in ap (λ x. Ok ((x - 1) / 2)) same
-
-pub told_refusal : (f : Option Refusal) (there : Bool) (d d' : ℕ) (r : Refusal) → ◌≡◌ {A = Result ℕ Refusal} (Err r) (told_of_level f there d) → ◌≡◌ {A = Result ℕ Refusal} (Err r) (told_of_level f there d')
-told_refusal None true d d' r e = absurd (let z : ◌≡◌ {A = ℕ} 0 1 = cc in omega arith)
-told_refusal None false d d' r e = e
-told_refusal (Some f) there d d' r e = absurd (let z : ◌≡◌ {A = ℕ} 0 1 = cc in omega arith)
+use Rattle.chain.specs.Meaning.{Meaning, Level, Word}
 
 -- the tests of the definitions say what they say
 pub is_level_yes : (C : Meaning) (i : ℕ) → T (is_level C i) → Level C i

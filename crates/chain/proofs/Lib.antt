@@ -1,4 +1,3 @@
 pub mod Searching
 pub mod Facts
 pub mod Causes
-pub mod HeldNumbers

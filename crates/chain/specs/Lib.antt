@@ -4,3 +4,4 @@ pub mod Answers
 pub mod Follows
 pub mod Held
 pub mod Calls
+pub mod Padded

@@ -12,8 +12,5 @@ pub fn radius<C: Chain>(c: &C, level: usize) -> Result<usize, Refusal>
     ensures value { result ≡ told_of_level (C.Chain.meaning c.now).flaw (is_level (C.Chain.meaning c.now) level) (radius_of ((C.Chain.meaning c.now).distance level)) }
     ensures follows { Follows (C.Chain.meaning c.now) }
 {
-    match c.distance(level) {
-        Ok(distance) => Ok(distance.saturating_sub(1) / 2),
-        Err(refusal) => Err(refusal),
-    }
+    Ok(c.distance(level)?.saturating_sub(1) / 2)
 }

@@ -1,5 +1,5 @@
 -- The codeword, level by level. Assumes nothing.
-use Rattle.std.proofs.Common.{◌≡◌, ℕ, zero, suc, ◌+◌, ◌-◌, ◌<◌, ◌≤◌, ◌⊎◌, List, length, take, drop, replicate, sym, ap, ◌∙◌, subst, ap₂, inl, inr, mul_comm, add-one, arith, length-drop, length-take}
+use Rattle.std.proofs.Common.{refl, drop-drop, ◌≡◌, ℕ, zero, suc, ◌+◌, ◌-◌, ◌<◌, ◌≤◌, ◌⊎◌, List, length, take, drop, replicate, sym, ap, ◌∙◌, subst, ap₂, inl, inr, mul_comm, arith, length-drop, length-take}
 use lib.ListN.{length-replicate}
 use Rattle.std.proofs.lemmas.Bool.{cases_eq}
 use Rattle.field.specs.Words.{plus_scaled}
@@ -7,12 +7,12 @@ use Rattle.field.proofs.Unique.{zero_small}
 use Rattle.field.proofs.Vectors.{length_added, added_closed, scaled_closed, symbols_replicate, symbols_take}
 use Rattle.field.proofs.WordLaws.{symbols_drop}
 use Rattle.chain.specs.Answers.{told}
-use Rattle.chain.specs.Meaning.{IsChain, Message, Word}
+use Rattle.chain.specs.Meaning.{IsChain, Level, Message, Word}
 use Rattle.code.specs.Meaning.{Meaning, entry_at}
 use Rattle.code.specs.Numbers.{sum_to, joined_to, piece, part, block_to, k_of, n_of}
 use Rattle.code.proofs.Joined.{joined_length, joined_same, joined_symbols, joined_zeros, piece_joined}
 use Rattle.code.proofs.Sound.{Sound, entry_small}
-use Rattle.code.proofs.Sums.{sum_most}
+use Rattle.code.proofs.Sums.{sum_more}
 
 pub sum_rises : (f : ℕ → ℕ) (i n : ℕ) → i ≤ n → sum_to f i ≤ sum_to f n
 sum_rises f i zero h = let e : i ≡ 0 = omega arith in subst (λ k. sum_to f k ≤ 0) (sym e) (omega arith)
@@ -59,45 +59,44 @@ module _ (M : Meaning) (s : Sound M) (chain : IsChain M.chain) (xs : List ℕ) (
   pub blocks_none : (out : List ℕ) → out ≡ replicate (n_of M) 0 → out ≡ joined_to (block_to M xs 0) M.l
   blocks_none out e = e ∙ ap (λ n. replicate n 0) (mul_comm M.chain.m M.l) ∙ sym (joined_zeros M.chain.m M.l)
 
-  -- one level more
-  pub blocks_more : (i start : ℕ) (out next : List ℕ) (size : ℕ) → i < M.chain.s → start ≡ sum_to M.chain.size i → size ≡ M.chain.size (i + 1) → out ≡ joined_to (block_to M xs i) M.l
-      → next ≡ joined_to (λ j. plus_scaled M.chain.field (entry_at M.matrix (i + 1) j) (piece M.chain.m out j) (M.chain.encoding (i + 1) (take (start + size - start) (drop start xs)))) M.l
-      → next ≡ joined_to (block_to M xs (i + 1)) M.l
-  blocks_more i start out next size h es ez eo en =
-      let n : start + size - start ≡ size = omega arith in
-      let cut : take (start + size - start) (drop start xs) ≡ take (M.chain.size (suc i)) (drop (sum_to M.chain.size i) xs) = ap₂ (λ a b. take a (drop b xs)) (n ∙ ez ∙ ap M.chain.size (add-one i)) es in
+  -- the part of a level
+  abbrev cut : ℕ → List ℕ
+  cut i = take (M.chain.size i) (drop (sum_to M.chain.size (i - 1)) xs)
+
+  cut_word : (i : ℕ) → Level M.chain i → Message M.chain i (cut i)
+  cut_word zero at = absurd (omega (arith, at.from))
+  cut_word (suc i) at =
+      let back : i ≡ suc i - 1 = omega arith in subst (λ k. Message M.chain (suc i) (take (M.chain.size (suc i)) (drop (sum_to M.chain.size k) xs))) back (part_word i at.to)
+
+  blocks_more : (i : ℕ) (out next : List ℕ) → Level M.chain i → out ≡ joined_to (block_to M xs (i - 1)) M.l
+      → next ≡ joined_to (λ j. plus_scaled M.chain.field (entry_at M.matrix i j) (piece M.chain.m out j) (M.chain.encoding i (cut i))) M.l → next ≡ joined_to (block_to M xs i) M.l
+  blocks_more zero out next at eo en = absurd (omega (arith, at.from))
+  blocks_more (suc i) out next at eo en =
+      let back : suc i - 1 ≡ i = omega arith in
       en
       ∙ joined_same _ (block_to M xs (suc i)) M.l (λ j a b.
-      ap₂ (λ k p. plus_scaled M.chain.field (entry_at M.matrix k j) (piece M.chain.m out j) (M.chain.encoding k p)) (add-one i) cut
-      ∙ ap₂ (λ p w. plus_scaled M.chain.field (entry_at M.matrix (suc i) j) p w)
-      (ap (λ x. piece M.chain.m x j) eo ∙ piece_joined M.chain.m (block_to M xs i) M.l (λ k c d. (block_word i (omega arith) k).long) j a b) (sym (part_is i)))
-      ∙ sym (ap (λ k. joined_to (block_to M xs k) M.l) (add-one i))
+      ap (λ p. plus_scaled M.chain.field (entry_at M.matrix (suc i) j) p (part M xs (suc i)))
+      (ap (λ x. piece M.chain.m x j) (eo ∙ ap (λ n. joined_to (block_to M xs n) M.l) back) ∙ piece_joined M.chain.m (block_to M xs i) M.l (λ k c d. (block_word i (omega (arith, at.to)) k).long) j a b))
 
-  -- the part for the level after i lies within the message, which is short
-  pub part_fits : (i : ℕ) → i < M.chain.s → sum_to M.chain.size i + M.chain.size (i + 1) ≤ length xs
-  part_fits i h =
-      let r : sum_to M.chain.size i + M.chain.size (suc i) ≤ sum_to M.chain.size M.chain.s = sum_rises M.chain.size (suc i) M.chain.s h in
-      let e = ap M.chain.size (add-one i) in
-      let w = word.long in
-      omega arith
+  -- the step of level i: out has the blocks of the levels before it, and rest the parts from it on
+  pub record Step (i size : ℕ) (rest out : List ℕ) : Type 0 where
+    pub fits : size ≤ length rest
+    pub message : Message M.chain i (take size rest)
+    pub before : Word M.chain.field (n_of M) out
+    pub added : (k : ℕ) (next : List ℕ) → next ≡ joined_to (λ j. plus_scaled M.chain.field (entry_at M.matrix i j) (piece M.chain.m out j) (M.chain.encoding i (take size rest))) M.l → k ≡ i → next ≡ joined_to (block_to M xs k) M.l
+    pub left : (k : ℕ) → k ≡ i → drop size rest ≡ drop (sum_to M.chain.size k) xs
 
-  pub message_short : length xs ≤ 128
-  message_short =
-      let t = sum_most M.chain.size M.chain.s (λ i l m. let a = chain.size_most i (record { from = l; to = m }) in let b = chain.m_most in omega arith) in
-      let w = word.long in
-      let f = chain.s_most in
-      omega arith
-
-  -- as it is cut from the message
-  pub part_cut : (i start size : ℕ) → i < M.chain.s → start ≡ sum_to M.chain.size i → size ≡ M.chain.size (i + 1) → Message M.chain (i + 1) (take (start + size - start) (drop start xs))
-  part_cut i start size h es ez =
-      let n : start + size - start ≡ size = omega arith in
-      let cut : take (start + size - start) (drop start xs) ≡ take (M.chain.size (suc i)) (drop (sum_to M.chain.size i) xs) = ap₂ (λ a b. take a (drop b xs)) (n ∙ ez ∙ ap M.chain.size (add-one i)) es in
-      subst (λ k. Message M.chain k (take (start + size - start) (drop start xs))) (sym (add-one i)) (subst (Message M.chain (suc i)) (sym cut) (part_word i h))
-
-  -- a level that the loop reaches, and its part
-  pub level_there : (i n : ℕ) → i < n → n ≡ told M.chain.flaw M.chain.s → i < M.chain.s
-  level_there i n h e = let k = e ∙ ap (λ f. told f M.chain.s) s.none in omega arith
-
-  pub part_within : (i start size : ℕ) → i < M.chain.s → start ≡ sum_to M.chain.size i → size ≡ M.chain.size (i + 1) → start + size ≤ length xs
-  part_within i start size h es ez = let a = part_fits i h in omega arith
+  pub step : (i size n : ℕ) (rest out : List ℕ) → 1 ≤ i → i ≤ n → n ≡ told M.chain.flaw M.chain.s → size ≡ M.chain.size i
+      → out ≡ joined_to (block_to M xs (i - 1)) M.l → rest ≡ drop (sum_to M.chain.size (i - 1)) xs → Step i size rest out
+  step i size n rest out l h en es eo er =
+      let some = en ∙ ap (λ f. told f M.chain.s) s.none in
+      let at : Level M.chain i = record { from = l; to = omega arith } in
+      let is : take size rest ≡ cut i = ap₂ take es er in
+      record {
+        fits = omega (arith, (cut_word i at).long, length-take (M.chain.size i) (drop (sum_to M.chain.size (i - 1)) xs), ap length er);
+        message = subst (Message M.chain i) (sym is) (cut_word i at);
+        before = subst (Word M.chain.field (n_of M)) (sym eo) (blocks_word (i - 1) (omega (arith, at.to)));
+        added = λ k next e ek. blocks_more i out next at eo (e ∙ ap (λ p. joined_to (λ j. plus_scaled M.chain.field (entry_at M.matrix i j) (piece M.chain.m out j) (M.chain.encoding i p)) M.l) is)
+            ∙ sym (ap (λ n. joined_to (block_to M xs n) M.l) ek);
+        left = λ k ek. ap (drop size) er ∙ drop-drop size (sum_to M.chain.size (i - 1)) xs ∙ ap (λ n. drop n xs) (sum_more M.chain.size i _ size k l refl es ek);
+      }

@@ -1,10 +1,10 @@
 -- When a matrix has the shape that a code asks for, and what the flaw of a code is. Assumes nothing.
-use Rattle.std.proofs.Common.{◌≡◌, ℕ, zero, suc, ◌+◌, ◌*◌, ◌<◌, ◌≤◌, Bool, true, false, cond, ◌&&◌, T, eqb, leb, List, [], length, get_or, take, drop, None, sym, refl, ap, ◌∙◌, subst, ap₂, arith, le→leb, eqb→eq, length-drop, length-take}
+use Rattle.std.proofs.Common.{◌≡◌, ℕ, zero, suc, ◌*◌, ◌<◌, ◌≤◌, Bool, true, false, cond, ◌&&◌, T, eqb, leb, List, [], length, take, drop, None, sym, refl, ap, ◌∙◌, subst, ap₂, arith, le→leb, eqb→eq, length-drop, length-take}
 use lib.Dec.{eqb_refl}
 use Rattle.std.specs.Option.{option_or}
 use Rattle.std.specs.List.{AllByRecursion}
 use Rattle.std.proofs.ByRecursion.{All-get_or, All-from_get_or, All-push}
-use Rattle.std.proofs.lemmas.List.{at_drop_more, length_push}
+use Rattle.std.proofs.lemmas.List.{length_push}
 use Rattle.std.proofs.lemmas.Bool.{cond-true}
 use Rattle.refusal.specs.declared.Refusal.TheVariants.{MatrixShape, MatrixEntry, SingularMatrix}
 use Rattle.field.specs.Meaning as fields
@@ -23,10 +23,6 @@ use Rattle.code.specs.declared.matrix.Matrix.{Matrix}
 use Rattle.code.proofs.Passing.{held_wide}
 use Rattle.code.proofs.Rows.{held_length, held_row, row_fits}
 use Rattle.code.proofs.Sentence.{all_pass, pass_all}
-
--- a test of all rows, one row further
-pub every_step : (test : List ℕ → Bool) (rows : List (List ℕ)) (i : ℕ) (b : Bool) → i < length rows → test (get_or rows i []) ≡ b → every test (drop i rows) ≡ (b && every test (drop (i + 1) rows))
-every_step test rows i b l e = at_drop_more (every test) rows i [] l ∙ ap (λ x. x && every test (drop (i + 1) rows)) e
 
 pub same_test : (a b : ℕ) → a ≡ b → T (eqb a b)
 same_test a b e = subst (λ n. T (eqb a n)) e (eqb_refl a)

@@ -21,11 +21,11 @@ use Rattle.code.proofs.Shape.{four_parts}
 
 none_parts : (x y : Option Refusal) → option_or x y ≡ None → (x ≡ None) × (y ≡ None)
 none_parts None y e = (refl, e)
-none_parts (Some r) y e = absurd (let z : ◌≡◌ {A = ℕ} 0 1 = cc in omega arith)
+none_parts (Some r) y e = absurd (cc)
 
 passed : (b : Bool) (r : Refusal) → unless b r ≡ None → b ≡ true
 passed true r e = refl
-passed false r e = absurd (let z : ◌≡◌ {A = ℕ} 0 1 = cc in omega arith)
+passed false r e = absurd (cc)
 
 pub record Sound (M : Meaning) : Type 0 where
   pub none : M.chain.flaw ≡ None

@@ -1,15 +1,24 @@
 -- Sums, least numbers and falling products over the levels: their steps and how large they are. Assumes nothing.
-use Rattle.std.proofs.Common.{◌≡◌, ℕ, zero, suc, ◌+◌, ◌-◌, ◌*◌, ◌^◌, ◌<◌, ◌≤◌, min, sym, ap, ◌∙◌, subst, mul-le-mul, pow-suc, add-one, arith}
+use Rattle.std.proofs.Common.{◌≡◌, ℕ, zero, suc, ◌+◌, ◌-◌, ◌*◌, ◌^◌, ◌<◌, ◌≤◌, min, sym, ap, ap₂, ◌∙◌, subst, mul-le-mul, pow-suc, add-one, arith}
 use native.Mathlib.Nat.{pow-le-pow_right}
 use native.Mathlib.Decide.{ℕ_discrete}
+use Rattle.chain.specs.Meaning.{Meaning, IsChain}
 use Rattle.code.specs.Numbers.{sum_to, least_to, falling}
 
 pub sum_most : (f : ℕ → ℕ) (n : ℕ) → ((i : ℕ) → 1 ≤ i → i ≤ n → f i ≤ 32) → sum_to f n ≤ n * 32
 sum_most f zero h = omega arith
 sum_most f (suc n) h = let a = sum_most f n (λ i l m. h i l (omega arith)) in let b = h (suc n) (omega arith) (omega arith) in omega arith
 
-pub sum_more : (f : ℕ → ℕ) (n s x : ℕ) → s ≡ sum_to f n → x ≡ f (n + 1) → s + x ≡ sum_to f (n + 1)
-sum_more f n s x e h = ap (λ z. z + x) e ∙ ap (λ z. sum_to f n + z) (h ∙ ap f (add-one n)) ∙ sym (ap (sum_to f) (add-one n))
+-- all messages of a chain together are short
+pub sizes_small : (C : Meaning) → IsChain C → (n : ℕ) → n ≤ C.s → sum_to C.size n ≤ 128
+sizes_small C chain n h =
+    let each = sum_most C.size n (λ i l m. omega (arith, chain.size_most i (record { from = l; to = omega arith }), chain.m_most)) in
+    omega (arith, each, chain.s_most)
+
+-- one number more
+pub sum_more : (f : ℕ → ℕ) (n s x k : ℕ) → 1 ≤ n → s ≡ sum_to f (n - 1) → x ≡ f n → k ≡ n → s + x ≡ sum_to f k
+sum_more f zero s x k l e h same = absurd (omega arith)
+sum_more f (suc n) s x k l e h same = let back : suc n - 1 ≡ n = omega arith in ap₂ ◌+◌ (e ∙ ap (sum_to f) back) h ∙ ap (sum_to f) (sym same)
 
 -- up to eight factors of at most eight
 pub falling_most : (l n : ℕ) → l ≤ 8 → falling l n ≤ 8 ^ n

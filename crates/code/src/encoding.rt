@@ -3,7 +3,7 @@ ghost use Rattle.std.specs.Prelude.{◌≡◌, ◌*◌, length, None};
 ghost use Rattle.field.specs.Words.{symbols, plus_scaled};
 ghost use Rattle.chain.specs.Meaning.{Level, Word};
 ghost use Rattle.code.specs.Answers.{Encodes};
-ghost use Rattle.code.specs.Held.{holding, held};
+ghost use Rattle.code.specs.Held.{meant, held};
 ghost use Rattle.code.specs.Meaning.{entry_at};
 ghost use Rattle.code.specs.Numbers.{code_flaw, k_of, n_of, codeword, joined_to, piece};
 
@@ -27,43 +27,41 @@ fn write_word<C: Chain>(chain: &C, level: usize, message: &[u8], out: &mut [u8])
 impl<C: Chain> Code<C> {
     // Adds to each block the word of a level's part of the message, times the entry of the level's row.
     fn add_level(&self, level: usize, part: &[u8], out: &mut [u8])
-        requires sound { code_flaw (holding (C.Chain.meaning self.now.chain) self.now.l self.now.matrix) ≡ None }
+        requires sound { code_flaw (meant C.Chain.meaning self.now) ≡ None }
         requires level { Level (C.Chain.meaning self.now.chain) level }
         requires part { Word (C.Chain.meaning self.now.chain).field ((C.Chain.meaning self.now.chain).size level) part.now }
-        requires before { Word (C.Chain.meaning self.now.chain).field (n_of (holding (C.Chain.meaning self.now.chain) self.now.l self.now.matrix)) out.old }
+        requires before { Word (C.Chain.meaning self.now.chain).field (n_of (meant C.Chain.meaning self.now)) out.old }
         ensures { out.new ≡ joined_to (λ j. plus_scaled (C.Chain.meaning self.now.chain).field (entry_at (held self.now.matrix) level j) (piece (C.Chain.meaning self.now.chain).m out.old j) ((C.Chain.meaning self.now.chain).encoding level part.now)) self.now.l }
     {
+        // No word is longer, and nothing is allocated.
         let mut buffer = [0; 32];
-        let word = &mut buffer[0..self.chain.length()];
+        let word = &mut buffer[..self.chain.length()];
         write_word(&self.chain, level, part, word);
         self.matrix.add_row(self.chain.field(), level, word, out);
     }
 
+    // Writes the codeword, level by level.
     fn write_codeword(&self, message: &[u8], out: &mut [u8])
-        requires sound { code_flaw (holding (C.Chain.meaning self.now.chain) self.now.l self.now.matrix) ≡ None }
-        requires word { Word (C.Chain.meaning self.now.chain).field (k_of (holding (C.Chain.meaning self.now.chain) self.now.l self.now.matrix)) message.now }
-        requires long { length out.old ≡ n_of (holding (C.Chain.meaning self.now.chain) self.now.l self.now.matrix) }
-        ensures { out.new ≡ codeword (holding (C.Chain.meaning self.now.chain) self.now.l self.now.matrix) message.now }
+        requires sound { code_flaw (meant C.Chain.meaning self.now) ≡ None }
+        requires word { Word (C.Chain.meaning self.now.chain).field (k_of (meant C.Chain.meaning self.now)) message.now }
+        requires long { length out.old ≡ n_of (meant C.Chain.meaning self.now) }
+        ensures { out.new ≡ codeword (meant C.Chain.meaning self.now) message.now }
     {
         out.fill(0);
-        let mut start = 0;
-        for i in 0..self.chain.levels() {
-            let size = size_of(&self.chain, i + 1);
-            self.add_level(i + 1, &message[start..start + size], out);
-            start += size;
+        let mut rest = message;
+        for level in 1..=self.chain.levels() {
+            let (part, later) = rest.split_at(size_of(&self.chain, level));
+            self.add_level(level, part, out);
+            rest = later;
         }
     }
 
     // Writes the codeword of a message of k symbols into n places.
     pub fn encode(&self, message: &[u8], out: &mut [u8]) -> Result<(), Refusal>
-        ensures { Encodes (holding (C.Chain.meaning self.now.chain) self.now.l self.now.matrix) message.now out.old result out.new }
+        ensures { Encodes (meant C.Chain.meaning self.now) message.now out.old result out.new }
     {
-        if let Some(flaw) = self.flaw() {
-            return Err(flaw);
-        }
-        let k = total_size(&self.chain);
-        let n = self.chain.length() * self.l;
-        if message.len() != k || out.len() != n {
+        self.checked()?;
+        if message.len() != total_size(&self.chain) || out.len() != self.chain.length() * self.l {
             return Err(Refusal::WrongLength);
         }
         if !are_symbols(self.chain.field(), message) {

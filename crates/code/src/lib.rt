@@ -9,7 +9,7 @@ mod numbers;
 pub use matrix::Matrix;
 
 // A code over the chain that it holds, with a matrix of l columns. A flaw is told, not refused.
-#[derive(Clone, Copy)]
+#[derive(Clone, Copy, PartialEq, Eq, Debug)]
 pub struct Code<C> {
     chain: C,
     l: usize,

@@ -1,7 +1,7 @@
 // The making of a code, and its flaw.
-ghost use Rattle.std.specs.Prelude.{◌≡◌, ◌*◌, ◌&&◌, length, None, ◌==◌, nat_le};
+ghost use Rattle.std.specs.Prelude.{◌≡◌, ◌*◌, ◌&&◌, length, MatchResult, None, Some, ◌==◌, nat_le};
 ghost use Rattle.chain.specs.Answers.{told};
-ghost use Rattle.code.specs.Held.{holding, held};
+ghost use Rattle.code.specs.Held.{meant, held};
 ghost use Rattle.code.specs.Meaning.{joining, entry_at};
 ghost use Rattle.code.specs.Numbers.{code_flaw, is_shaped};
 
@@ -13,9 +13,9 @@ use refusal::Refusal;
 impl<C: Chain> Code<C> {
     // The entries stand row by row.
     pub fn new(chain: C, l: usize, entries: &[u8]) -> Code<C>
-        ensures meaning { holding (C.Chain.meaning result.chain) result.l result.matrix ≡ joining (C.Chain.meaning chain) l entries.now }
+        ensures meaning { meant C.Chain.meaning result ≡ joining (C.Chain.meaning chain) l entries.now }
         ensures kept { result.chain ≡ chain }
-        ensures shape { (C.Chain.meaning chain).flaw ≡ None → is_shaped (holding (C.Chain.meaning result.chain) result.l result.matrix) ≡ (nat_le (C.Chain.meaning chain).s l && nat_le l 8 && length entries.now == (C.Chain.meaning chain).s * l) }
+        ensures shape { (C.Chain.meaning chain).flaw ≡ None → is_shaped (meant C.Chain.meaning result) ≡ (nat_le (C.Chain.meaning chain).s l && nat_le l 8 && length entries.now == (C.Chain.meaning chain).s * l) }
     {
         let matrix = Matrix::of(chain.levels(), l, entries);
         Code { chain, l, matrix }
@@ -35,18 +35,16 @@ impl<C: Chain> Code<C> {
 
     // The entry of the matrix in a row and a column, counted from 1; 0 where there is none.
     pub fn entry(&self, row: usize, column: usize) -> u8
-        ensures { result ≡ told (code_flaw (holding (C.Chain.meaning self.now.chain) self.now.l self.now.matrix)) (entry_at (held self.now.matrix) row column) }
+        ensures { result ≡ told (code_flaw (meant C.Chain.meaning self.now)) (entry_at (held self.now.matrix) row column) }
     {
-        match self.flaw() {
-            Some(_) => 0,
-            None => self.matrix.entry(row, column),
-        }
+        self.checked()
+            .map_or(0, |code| code.matrix.entry(row, column))
     }
 
     // Whether l is from s to 8 and the matrix has s rows of l entries.
     fn has_shape(&self) -> bool
         requires { (C.Chain.meaning self.now.chain).flaw ≡ None }
-        ensures { result ≡ is_shaped (holding (C.Chain.meaning self.now.chain) self.now.l self.now.matrix) }
+        ensures { result ≡ is_shaped (meant C.Chain.meaning self.now) }
     {
         is_fitting(
             self.chain.levels(),
@@ -58,22 +56,36 @@ impl<C: Chain> Code<C> {
 
     // Why the code cannot be used, if it cannot.
     pub fn flaw(&self) -> Option<Refusal>
-        ensures { result ≡ code_flaw (holding (C.Chain.meaning self.now.chain) self.now.l self.now.matrix) }
+        ensures { result ≡ code_flaw (meant C.Chain.meaning self.now) }
     {
-        if let Some(flaw) = self.chain.flaw() {
-            return Some(flaw);
+        self.chain.flaw().or_else(|| self.matrix_flaw())
+    }
+
+    // The code, if it has no flaw.
+    pub(crate) fn checked(&self) -> Result<&Self, Refusal>
+        ensures { MatchResult result (λ code. (code.now ≡ self.now) × (code_flaw (meant C.Chain.meaning self.now) ≡ None)) (λ flaw. code_flaw (meant C.Chain.meaning self.now) ≡ Some flaw) }
+    {
+        match self.flaw() {
+            None => Ok(self),
+            Some(flaw) => Err(flaw),
         }
-        if !self.has_shape() {
-            return Some(Refusal::MatrixShape);
-        }
+    }
+
+    // The first flaw of the matrix.
+    fn matrix_flaw(&self) -> Option<Refusal>
+        requires { (C.Chain.meaning self.now.chain).flaw ≡ None }
+        ensures { result ≡ code_flaw (meant C.Chain.meaning self.now) }
+    {
         let f = self.chain.field();
-        if !self.matrix.is_of(f) {
-            return Some(Refusal::MatrixEntry);
+        if !self.has_shape() {
+            Some(Refusal::MatrixShape)
+        } else if !self.matrix.is_of(f) {
+            Some(Refusal::MatrixEntry)
+        } else if !self.matrix.is_nonsingular(f) {
+            Some(Refusal::SingularMatrix)
+        } else {
+            None
         }
-        if !self.matrix.is_nonsingular(f) {
-            return Some(Refusal::SingularMatrix);
-        }
-        None
     }
 }
 

@@ -1,3 +1,3 @@
 pub mod Printed
+pub mod Standing
 pub mod Answers
-pub mod Levels

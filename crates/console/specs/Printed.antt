@@ -1,5 +1,6 @@
 -- The bytes of each answer. Assumes nothing.
 use Rattle.std.specs.Prelude.{ℕ, List, ◌++◌, Ok, Err, string_bytes, codes, decimal, Result}
+use Rattle.refusal.specs.Numbers.{number_or_0}
 use Rattle.refusal.specs.Printed.{printed_refusal}
 use Rattle.console.specs.declared.answer.Answer.{Answer}
 use Rattle.console.specs.declared.answer.Answer.TheVariants.{Field, Symbol, Chain, Code, Scratch, Text, Failed, NotUnderstood}
@@ -19,8 +20,8 @@ printed_failure (Refused r) = printed_refusal r
 abbrev pub printed : Answer → List ℕ
 printed (Field q) = codes "field q " ++ decimal q
 printed (Symbol a) = decimal a
-printed (Chain f) = codes "chain flaw " ++ decimal f
-printed (Code f) = codes "code flaw " ++ decimal f
+printed (Chain f) = codes "chain flaw " ++ decimal (number_or_0 f)
+printed (Code f) = codes "code flaw " ++ decimal (number_or_0 f)
 printed (Scratch n) = codes "scratch " ++ decimal n
 printed (Text t) = string_bytes t
 printed (Failed f) = printed_failure f

@@ -1,18 +1,20 @@
 // What the console answers, and how it prints it.
 ghost use Rattle.std.specs.Prelude.{◌≡◌, Some};
-ghost use Rattle.console.specs.Printed.{printed, printed_failure, printed_missing, replied};
+ghost use Rattle.console.specs.Printed.{printed, printed_failure, printed_missing};
 ghost use Rattle.console.specs.declared.answer.Failure.TheVariants.{Refused};
+ghost use Rattle.console.specs.declared.answer.Unanswered.TheVariants.{Failed, OutOfMemory};
 
 use refusal::Refusal;
+use std::alloc::AllocError;
 use std::fmt;
 
-#[derive(Drop)]
+#[derive(Debug, PartialEq, Eq, Drop)]
 pub enum Answer {
     Field(u8),
     Symbol(u8),
-    // A chain or a code was made; its flaw's number, or 0.
-    Chain(u8),
-    Code(u8),
+    // A chain or a code was made, with this flaw or none.
+    Chain(Option<Refusal>),
+    Code(Option<Refusal>),
     Scratch(u32),
     // Symbols, or the lines of a sheet.
     Text(String),
@@ -21,14 +23,14 @@ pub enum Answer {
 }
 
 // Why a command that was understood has no answer of its own.
-#[derive(Clone, Copy)]
+#[derive(Clone, Copy, Debug, PartialEq, Eq)]
 pub enum Failure {
     NotYet(Missing),
     Refused(Refusal),
 }
 
 // What a command wants and no command has made.
-#[derive(Clone, Copy)]
+#[derive(Clone, Copy, Debug, PartialEq, Eq)]
 pub enum Missing {
     Field,
     Chain,
@@ -43,14 +45,34 @@ impl From<Refusal> for Failure {
     }
 }
 
-impl Answer {
-    pub fn of(res: Result<Answer, Failure>) -> Answer
-        ensures { result ≡ replied res }
-    {
-        match res {
-            Ok(answer) => answer,
-            Err(failure) => Answer::Failed(failure),
-        }
+// Why a command that was understood was not carried out: a failure is answered, and lack of memory ends the session.
+#[derive(Clone, Copy, Debug)]
+pub enum Unanswered {
+    Failed(Failure),
+    OutOfMemory(AllocError),
+}
+
+impl From<Failure> for Unanswered {
+    ghost from_gives = { λ e r. r ≡ Failed e };
+
+    fn from(e: Failure) -> Unanswered {
+        Unanswered::Failed(e)
+    }
+}
+
+impl From<Refusal> for Unanswered {
+    ghost from_gives = { λ e r. r ≡ Failed (Refused e) };
+
+    fn from(e: Refusal) -> Unanswered {
+        Unanswered::Failed(Failure::Refused(e))
+    }
+}
+
+impl From<AllocError> for Unanswered {
+    ghost from_gives = { λ e r. r ≡ OutOfMemory e };
+
+    fn from(e: AllocError) -> Unanswered {
+        Unanswered::OutOfMemory(e)
     }
 }
 
@@ -61,8 +83,14 @@ impl fmt::Display for Answer {
         match self {
             Answer::Field(q) => write!(f, "field q {q}"),
             Answer::Symbol(a) => write!(f, "{a}"),
-            Answer::Chain(flaw) => write!(f, "chain flaw {flaw}"),
-            Answer::Code(flaw) => write!(f, "code flaw {flaw}"),
+            Answer::Chain(flaw) => {
+                let number = Refusal::number_or_0(*flaw);
+                write!(f, "chain flaw {number}")
+            }
+            Answer::Code(flaw) => {
+                let number = Refusal::number_or_0(*flaw);
+                write!(f, "code flaw {number}")
+            }
             Answer::Scratch(bytes) => write!(f, "scratch {bytes}"),
             Answer::Text(text) => write!(f, "{text}"),
             Answer::Failed(failure) => write!(f, "{failure}"),

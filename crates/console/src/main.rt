@@ -2,10 +2,7 @@
 #![tactic(auto)]
 
 mod answer;
-mod codes;
-mod levels;
 mod session;
-mod sheet;
 
 use session::Session;
 use std::io;

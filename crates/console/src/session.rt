@@ -1,16 +1,21 @@
 // What stands in a session, and how it answers a command.
-ghost use Rattle.std.specs.Prelude.{◌≡◌, IfOk, None, string_bytes, OnOk};
+ghost use Rattle.std.specs.Prelude.{◌≡◌, ℕ, List, IfOk, OnOk, string_bytes};
 ghost use Rattle.std.specs.Option.{option_map, ok_or};
+ghost use Rattle.field.specs.Meaning as fields;
+ghost use Rattle.chain.specs.Meaning as chains;
 ghost use Rattle.any_field.specs.Kinds.{meant, of_order};
-ghost use Rattle.field.specs.Answers.{summed, multiplied, opposed, inverted};
-ghost use Rattle.script.specs.Commands.{view};
+ghost use Rattle.any_chain.specs.Kinds.{chain_meant};
+ghost use Rattle.code.specs.Meaning.{joining};
+ghost use Rattle.code.specs.Numbers.{code_flaw};
+ghost use Rattle.script.specs.Commands.{view, sheet, encode, code};
 ghost use Rattle.script.specs.Lines.{parsed};
-ghost use Rattle.console.specs.Answers.{Answers, Prints, field_after, field_then, kept, on_field, told};
+ghost use Rattle.console.specs.Answers.{Answers, IfAnswered, MakesBy, Prints, after, chain_made, kept, made_of, on, standing_after, text_on, told};
+ghost use Rattle.console.specs.Printed.{printed};
+ghost use Rattle.console.specs.Standing.{Standing, standing, nothing};
 ghost use Rattle.console.specs.declared.answer.Failure.TheVariants.{NotYet};
-ghost use Rattle.console.specs.declared.answer.Missing.TheVariants.{Field as FieldMissing};
+ghost use Rattle.console.specs.declared.answer.Missing.TheVariants.{Field as FieldMissing, Chain as ChainMissing, Code as CodeMissing};
 
-use crate::answer::{Answer, Failure, Missing};
-use crate::{codes, levels, sheet};
+use crate::answer::{Answer, Failure, Missing, Unanswered};
 use any_chain::AnyChain;
 use any_field::AnyField;
 use chain::Chain;
@@ -31,7 +36,7 @@ pub struct Session {
 
 impl Session {
     pub fn new() -> Session
-        ensures { result.field ≡ None }
+        ensures { standing result ≡ nothing }
     {
         Session {
             field: None,
@@ -43,8 +48,8 @@ impl Session {
 
     // The line and its answer, as they are printed; nothing where the line is passed over.
     pub fn reply(&mut self, heap: Global, line: &[u8]) -> Result<Option<String>, AllocError>
-        ensures prints { IfOk result (λ o. Prints (option_map meant self.old.field) line.now (parsed line.now) (option_map string_bytes o)) }
-        ensures leaves { OnOk result (option_map meant self.new.field ≡ field_then (option_map meant self.old.field) (parsed line.now)) }
+        ensures prints { IfOk result (λ o. Prints (standing self.old) line.now (parsed line.now) (option_map string_bytes o)) }
+        ensures leaves { OnOk result (standing self.new ≡ standing_after (standing self.old) (parsed line.now)) }
     {
         let answer = match parse(heap, line)? {
             Line::PassedOver => return Ok(None),
@@ -55,58 +60,66 @@ impl Session {
         Ok(Some(format!(in heap; "{echo}\n{answer}\n")?))
     }
 
-    // A command that fails leaves what stood before.
+    // A failure is an answer too.
     fn answer(&mut self, heap: Global, command: Command) -> Result<Answer, AllocError>
-        ensures answers { IfOk result (λ a. Answers (option_map meant self.old.field) (view command) a) }
-        ensures leaves { OnOk result (option_map meant self.new.field ≡ field_after (option_map meant self.old.field) (view command)) }
+        ensures answers { IfOk result (λ a. Answers (standing self.old) (view command) a) }
+        ensures leaves { OnOk result (standing self.new ≡ after (standing self.old) (view command)) }
+    {
+        match self.carry_out(heap, command) {
+            Ok(answer) => Ok(answer),
+            Err(Unanswered::Failed(failure)) => Ok(Answer::Failed(failure)),
+            Err(Unanswered::OutOfMemory(error)) => Err(error),
+        }
+    }
+
+    // A command that fails leaves what stood before.
+    fn carry_out(&mut self, heap: Global, command: Command) -> Result<Answer, Unanswered>
+        ensures answers { IfAnswered result (Answers (standing self.old) (view command)) }
+        ensures leaves { IfAnswered result (λ _. standing self.new ≡ after (standing self.old) (view command)) }
     {
         match command {
-            Command::Field(q) => Ok(Answer::of(self.make_field(q))),
-            Command::Sum(a, b) => Ok(Answer::of(self.sum(a, b))),
-            Command::Product(a, b) => Ok(Answer::of(self.product(a, b))),
-            Command::Opposite(a) => Ok(Answer::of(self.opposite(a))),
-            Command::Inverse(a) => Ok(Answer::of(self.inverse(a))),
-            Command::Sheet => sheet::sheet(heap, self.field, self.chain, self.code),
-            Command::ReedSolomon(m, sizes) => Ok(Answer::of(self.make_reed_solomon(
+            Command::Field(q) => Ok(self.make_field(q)?),
+            Command::Sum(a, b) => Ok(Answer::Symbol(self.standing_field()?.sum(a, b)?)),
+            Command::Product(a, b) => Ok(Answer::Symbol(self.standing_field()?.product(a, b)?)),
+            Command::Opposite(a) => Ok(Answer::Symbol(self.standing_field()?.opposite(a)?)),
+            Command::Inverse(a) => Ok(Answer::Symbol(self.standing_field()?.inverse(a)?)),
+            Command::Sheet => self.sheet(heap),
+            Command::ReedSolomon(m, sizes) => Ok(self.make_chain(
+                AnyChain::reed_solomon,
                 m,
                 sizes.as_slice(),
-            ))),
-            Command::Plain(m, kinds) => Ok(Answer::of(self.make_plain(m, kinds.as_slice()))),
-            Command::EncodeLevel(level, message) => levels::encoded(
+            )?),
+            Command::Plain(m, kinds) => Ok(self.make_chain(AnyChain::plain, m, kinds.as_slice())?),
+            Command::EncodeLevel(level, message) => self.chain_text(|chain| printing::encode_level(
                 heap,
-                self.chain,
-                level,
+                &chain,
+                usize::from(level),
                 message.as_slice(),
-            ),
-            Command::CorrectLevel(level, block) => levels::corrected(
+            )),
+            Command::CorrectLevel(level, block) => {
+                // `usize` has no `From<u32>`.
+                let scratch = self.scratch as usize;
+                self.chain_text(|chain| printing::correct_level(
+                    heap,
+                    &chain,
+                    usize::from(level),
+                    block.as_slice(),
+                    scratch,
+                ))
+            }
+            Command::StripLevel(level, block) => self.chain_text(|chain| printing::strip_level(
                 heap,
-                self.chain,
-                level,
+                &chain,
+                usize::from(level),
                 block.as_slice(),
-                self.scratch,
-            ),
-            Command::StripLevel(level, block) => levels::stripped(
-                heap,
-                self.chain,
-                level,
-                block.as_slice(),
-            ),
-            Command::Code(l, entries) => Ok(Answer::of(self.make_code(l, entries.as_slice()))),
-            Command::Encode(message) => codes::encoded(heap, self.code, message.as_slice()),
+            )),
+            Command::Code(l, entries) => Ok(self.make_code(l, entries.as_slice())?),
+            Command::Encode(message) => self.encode(heap, message.as_slice()),
             Command::Scratch(bytes) => {
                 self.scratch = bytes;
                 Ok(Answer::Scratch(bytes))
             }
         }
-    }
-
-    fn make_field(&mut self, q: u8) -> Result<Answer, Failure>
-        ensures answer { result ≡ told (λ F. Answer.Field F.q) (of_order q) }
-        ensures leaves { option_map meant self.new.field ≡ kept (option_map meant self.old.field) (of_order q) }
-    {
-        let field = AnyField::of_order(q)?;
-        self.field = Some(field);
-        Ok(Answer::Field(field.order()))
     }
 
     fn standing_field(&self) -> Result<AnyField, Failure>
@@ -115,54 +128,84 @@ impl Session {
         self.field.ok_or(Failure::NotYet(Missing::Field))
     }
 
-    fn sum(&self, a: u8, b: u8) -> Result<Answer, Failure>
-        ensures { result ≡ on_field (option_map meant self.now.field) (λ F. told Answer.Symbol (summed F a b)) }
+    fn standing_chain(&self) -> Result<AnyChain, Failure>
+        ensures { result ≡ ok_or self.now.chain (NotYet ChainMissing) }
     {
-        Ok(Answer::Symbol(self.standing_field()?.sum(a, b)?))
+        self.chain.ok_or(Failure::NotYet(Missing::Chain))
     }
 
-    fn product(&self, a: u8, b: u8) -> Result<Answer, Failure>
-        ensures { result ≡ on_field (option_map meant self.now.field) (λ F. told Answer.Symbol (multiplied F a b)) }
+    fn standing_code(&self) -> Result<Code<AnyChain>, Failure>
+        ensures { result ≡ ok_or self.now.code (NotYet CodeMissing) }
     {
-        Ok(Answer::Symbol(self.standing_field()?.product(a, b)?))
+        self.code.ok_or(Failure::NotYet(Missing::Code))
     }
 
-    fn opposite(&self, a: u8) -> Result<Answer, Failure>
-        ensures { result ≡ on_field (option_map meant self.now.field) (λ F. told Answer.Symbol (opposed F a)) }
+    fn make_field(&mut self, q: u8) -> Result<Answer, Failure>
+        ensures answer { result ≡ told (λ F. Answer.Field F.q) (of_order q) }
+        ensures leaves { standing self.new ≡ record (standing self.old) { field = kept (standing self.old).field (of_order q) } }
     {
-        Ok(Answer::Symbol(self.standing_field()?.opposite(a)?))
+        let field = AnyField::of_order(q)?;
+        self.field = Some(field);
+        Ok(Answer::Field(field.order()))
     }
 
-    fn inverse(&self, a: u8) -> Result<Answer, Failure>
-        ensures { result ≡ on_field (option_map meant self.now.field) (λ F. told Answer.Symbol (inverted F a)) }
+    // The chain that is made over the standing field then stands.
+    fn make_chain<F: FnOnce(AnyField, usize, &[u8]) -> AnyChain>(
+        &mut self,
+        make: F,
+        m: u8,
+        numbers: &[u8],
+    ) -> Result<Answer, Failure>
+        requires { F.IsAlwaysCallable make }
+        ensures answer { (f : fields.Meaning → chains.Meaning) → MakesBy (F.post make) m numbers.now f → result ≡ chain_made (standing self.old).field f }
+        ensures leaves { (f : fields.Meaning → chains.Meaning) → MakesBy (F.post make) m numbers.now f → standing self.new ≡ record (standing self.old) { chain = made_of (standing self.old).field f (standing self.old).chain } }
     {
-        Ok(Answer::Symbol(self.standing_field()?.inverse(a)?))
-    }
-
-    fn make_plain(&mut self, m: u8, kinds: &[u8]) -> Result<Answer, Failure>
-        ensures { self.new.field ≡ self.old.field }
-    {
-        let chain = AnyChain::plain(self.standing_field()?, m as usize, kinds);
+        let chain = make(self.standing_field()?, usize::from(m), numbers);
         self.chain = Some(chain);
-        Ok(Answer::Chain(levels::flaw_number(&chain)))
-    }
-
-    fn make_reed_solomon(&mut self, m: u8, sizes: &[u8]) -> Result<Answer, Failure>
-        ensures { self.new.field ≡ self.old.field }
-    {
-        let chain = AnyChain::reed_solomon(self.standing_field()?, m as usize, sizes);
-        self.chain = Some(chain);
-        Ok(Answer::Chain(levels::flaw_number(&chain)))
+        Ok(Answer::Chain(chain.flaw()))
     }
 
     fn make_code(&mut self, l: u8, entries: &[u8]) -> Result<Answer, Failure>
-        ensures { self.new.field ≡ self.old.field }
+        ensures answer { result ≡ on ChainMissing (standing self.old).chain (λ C. Ok (Answer.Code (code_flaw (joining C l entries.now)))) }
+        ensures leaves { standing self.new ≡ after (standing self.old) (code l entries.now) }
     {
-        let Some(chain) = self.chain else {
-            return Err(Failure::NotYet(Missing::Chain));
-        };
-        let code = Code::new(chain, l as usize, entries);
+        let code = Code::new(self.standing_chain()?, usize::from(l), entries);
         self.code = Some(code);
-        Ok(Answer::Code(codes::flaw_number(&code)))
+        Ok(Answer::Code(code.flaw()))
+    }
+
+    // What a call of the standing chain shows.
+    fn chain_text<F: FnOnce(AnyChain) -> Result<String, AllocError>>(
+        &self,
+        call: F,
+    ) -> Result<Answer, Unanswered>
+        requires { F.IsAlwaysCallable call }
+        ensures { (text : chains.Meaning → List ℕ) → ((x : AnyChain) (r : _) → F.post call x r → IfOk r (λ s. string_bytes s ≡ text (chain_meant x))) → IfAnswered result (λ a. printed a ≡ text_on ChainMissing (standing self.now).chain text) }
+    {
+        Ok(Answer::Text(call(self.standing_chain()?)?))
+    }
+
+    fn encode(&self, heap: Global, message: &[u8]) -> Result<Answer, Unanswered>
+        ensures { IfAnswered result (Answers (standing self.now) (encode message.now)) }
+    {
+        let text = printing::encode(heap, &self.standing_code()?, message)?;
+        Ok(Answer::Text(text))
+    }
+
+    // The parameters of what stands.
+    fn sheet(&self, heap: Global) -> Result<Answer, Unanswered>
+        ensures { IfAnswered result (Answers (standing self.now) sheet) }
+    {
+        let q = self.standing_field()?.order();
+        let mut text = format!(in heap; "field q {q}")?;
+        if let Some(chain) = self.chain {
+            let lines = printing::chain_lines(heap, &chain)?;
+            text.push_str(lines.as_str())?;
+        }
+        if let Some(code) = self.code {
+            let lines = printing::code_lines(heap, &code)?;
+            text.push_str(lines.as_str())?;
+        }
+        Ok(Answer::Text(text))
     }
 }

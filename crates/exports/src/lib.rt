@@ -17,11 +17,10 @@ use refusal::Refusal;
 fn number_of(res: Result<(), Refusal>) -> u8
     ensures { result ≡ number res }
 {
-    match res {
-        Ok(()) => 0,
-        Err(refusal) => refusal.number(),
-    }
+    Refusal::number_or_0(res.err())
 }
+
+// The calls below come in pairs, since C knows a chain by the name of the call, and takes numbers and slices alone.
 
 // Over the field of q symbols, a plain chain's `encode`. A field that is refused is answered before anything else.
 #[unsafe(no_mangle)]
@@ -91,14 +90,12 @@ pub extern "C" fn link_reed_solomon_encode(
 {
     match AnyField::of_order(q) {
         // One corrector for each field, so that no field is chosen in its loops.
-        Ok(field) => match field {
-            AnyField::Sixteen(f) => number_of(ReedSolomon::new(f, m, sizes).encode(
-                level, message, out,
-            )),
-            AnyField::Prime(f) => number_of(ReedSolomon::new(f, m, sizes).encode(
-                level, message, out,
-            )),
-        },
+        Ok(AnyField::Sixteen(f)) => number_of(ReedSolomon::new(f, m, sizes).encode(
+            level, message, out,
+        )),
+        Ok(AnyField::Prime(f)) => number_of(ReedSolomon::new(f, m, sizes).encode(
+            level, message, out,
+        )),
         Err(refusal) => refusal.number(),
     }
 }
@@ -117,14 +114,12 @@ pub extern "C" fn link_reed_solomon_correct(
 {
     match AnyField::of_order(q) {
         // One corrector for each field, so that no field is chosen in its loops.
-        Ok(field) => match field {
-            AnyField::Sixteen(f) => number_of(ReedSolomon::new(f, m, sizes).correct(
-                level, block, scratch,
-            )),
-            AnyField::Prime(f) => number_of(ReedSolomon::new(f, m, sizes).correct(
-                level, block, scratch,
-            )),
-        },
+        Ok(AnyField::Sixteen(f)) => number_of(ReedSolomon::new(f, m, sizes).correct(
+            level, block, scratch,
+        )),
+        Ok(AnyField::Prime(f)) => number_of(ReedSolomon::new(f, m, sizes).correct(
+            level, block, scratch,
+        )),
         Err(refusal) => refusal.number(),
     }
 }
@@ -143,12 +138,10 @@ pub extern "C" fn link_reed_solomon_strip(
 {
     match AnyField::of_order(q) {
         // One corrector for each field, so that no field is chosen in its loops.
-        Ok(field) => match field {
-            AnyField::Sixteen(f) => number_of(ReedSolomon::new(f, m, sizes).strip(
-                level, block, out,
-            )),
-            AnyField::Prime(f) => number_of(ReedSolomon::new(f, m, sizes).strip(level, block, out)),
-        },
+        Ok(AnyField::Sixteen(f)) => number_of(ReedSolomon::new(f, m, sizes).strip(
+            level, block, out,
+        )),
+        Ok(AnyField::Prime(f)) => number_of(ReedSolomon::new(f, m, sizes).strip(level, block, out)),
         Err(refusal) => refusal.number(),
     }
 }

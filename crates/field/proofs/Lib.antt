@@ -6,3 +6,4 @@ pub mod Laws
 pub mod Metric
 pub mod WordLaws
 pub mod Vectors
+pub mod Folds

@@ -1,5 +1,6 @@
 -- Words: lists of symbols, and what is computed of them. Assumes nothing.
 use Rattle.std.specs.Prelude.{ℕ, Bool, true, false, ◌&&◌, List, [], ◌∷◌, length, Ok, Err, Result, ◌==◌, nat_lt}
+use Rattle.std.specs.List.{list_all}
 use Rattle.std.specs.Result.{result_unwrap_or}
 use Rattle.refusal.specs.declared.Refusal.{Refusal}
 use Rattle.refusal.specs.declared.Refusal.TheVariants.{BadArgument}
@@ -8,8 +9,7 @@ use Rattle.field.specs.Answers.{summed, multiplied, opposed, inverted, provided}
 
 -- each is below q
 abbrev pub symbols : ℕ → List ℕ → Bool
-symbols q [] = true
-symbols q (x ∷ xs) = nat_lt x q && symbols q xs
+symbols q xs = list_all (λ x. nat_lt x q) xs
 
 -- the field's answers where a call cannot refuse: 0 in the place of a refusal
 abbrev pub sum_or_0 : Meaning → ℕ → ℕ → ℕ
@@ -46,6 +46,16 @@ scaled F a (x ∷ xs) = F.product a x ∷ scaled F a xs
 
 abbrev pub plus_scaled : Meaning → ℕ → List ℕ → List ℕ → List ℕ
 plus_scaled F a xs vs = added F xs (scaled F a vs)
+
+-- the same by the total functions, for words that need not be symbols; a place that only xs has stays
+abbrev pub value_or_0 : Meaning → ℕ → List ℕ → ℕ
+value_or_0 F x [] = 0
+value_or_0 F x (c ∷ cs) = sum_or_0 F c (product_or_0 F x (value_or_0 F x cs))
+
+abbrev pub plus_scaled_or_0 : Meaning → ℕ → List ℕ → List ℕ → List ℕ
+plus_scaled_or_0 F a [] vs = []
+plus_scaled_or_0 F a (x ∷ xs) [] = x ∷ xs
+plus_scaled_or_0 F a (x ∷ xs) (v ∷ vs) = sum_or_0 F x (product_or_0 F a v) ∷ plus_scaled_or_0 F a xs vs
 
 -- What the calls on slices answer, for every argument.
 

@@ -11,7 +11,7 @@ mod symbols;
 mod words;
 
 pub use symbols::{add, invert, multiply, negate};
-pub use words::{add_scaled, are_symbols, distance, evaluate, total};
+pub use words::{add_multiple, add_scaled, are_symbols, distance, evaluate, total, value};
 
 // A field of q symbols, the numbers 0 to q − 1.
 pub trait Field {

@@ -1,4 +1,5 @@
-// A field's functions for code that has checked its symbols: total, with 0 in the place of a refusal.
+// A field's functions for code that has checked its symbols: total, with 0 in the place of a refusal. They are four, and not one
+// over the method, since each says what its own method answers.
 ghost use Rattle.std.specs.Prelude.{◌≡◌, ◌<◌, ◌≢◌};
 ghost use Rattle.field.specs.Meaning.{Exactly};
 ghost use Rattle.field.specs.Words.{sum_or_0, product_or_0, opposite_or_0, inverse_or_0};

@@ -1,7 +1,7 @@
 // Functions over words, slices of symbols, that all layers share. Each makes its own checks.
-ghost use Rattle.std.specs.Prelude.{◌≡◌, ◌&&◌, if◌then◌else◌};
+ghost use Rattle.std.specs.Prelude.{◌≡◌, ◌&&◌, if◌then◌else◌, count_by, nat_eq, not, zip};
 ghost use Rattle.field.specs.Places.{distance as differing};
-ghost use Rattle.field.specs.Words.{symbols, totalled, evaluated, addable, done_if, plus_scaled};
+ghost use Rattle.field.specs.Words.{symbols, totalled, evaluated, addable, done_if, plus_scaled, value_or_0, plus_scaled_or_0};
 
 use crate::Field;
 use crate::symbols::{add, multiply};
@@ -12,26 +12,21 @@ pub fn are_symbols<F: Field>(f: &F, xs: &[u8]) -> bool
     ensures { result ≡ symbols (F.Field.meaning f.now).q xs.now }
 {
     let q = f.order();
-    for x in xs {
-        if *x >= q {
-            return false;
-        }
-    }
-    true
+    xs.iter().all(|x| *x < q)
 }
 
 // The number of places where two words differ; a place that only one of them has counts as one.
 pub fn distance(a: &[u8], b: &[u8]) -> usize
     ensures { result ≡ differing a.now b.now }
 {
-    let common = a.len().min(b.len());
-    let mut count = 0;
-    for i in 0..common {
-        if a[i] != b[i] {
-            count += 1;
-        }
-    }
-    count + (a.len().max(b.len()) - common)
+    differences(a, b) + a.len().abs_diff(b.len())
+}
+
+// The number of places that both words have and where they differ.
+fn differences(a: &[u8], b: &[u8]) -> usize
+    ensures { result ≡ count_by (λ p. not (nat_eq p.0 p.1)) (zip a.now b.now) }
+{
+    a.iter().zip(b).filter(|(x, y)| x != y).count()
 }
 
 // The sum of all symbols of a word.
@@ -41,28 +36,42 @@ pub fn total<F: Field>(f: &F, xs: &[u8]) -> Result<u8, Refusal>
     if !are_symbols(f, xs) {
         return Err(Refusal::BadArgument);
     }
-    let mut sum = 0;
-    for i in (0..xs.len()).rev() {
-        sum = add(f, xs[i], sum);
-    }
-    Ok(sum)
+    Ok(xs.iter().rev().fold(0, |sum, x| add(f, *x, sum)))
 }
 
-// The value at x of the polynomial with these coefficients, the lowest first: Horner's rule.
+// The value at x of the polynomial with these coefficients, the lowest first, by Horner's rule; 0 in the place of a refusal.
+pub fn value<F: Field>(f: &F, x: u8, coefficients: &[u8]) -> u8
+    ensures { result ≡ value_or_0 (F.Field.meaning f.now) x coefficients.now }
+{
+    coefficients
+        .iter()
+        .rev()
+        .fold(0, |value, c| add(f, *c, multiply(f, x, value)))
+}
+
+// The same where x and the coefficients are symbols, refused where they are not.
 pub fn evaluate<F: Field>(f: &F, x: u8, coefficients: &[u8]) -> Result<u8, Refusal>
     ensures { result ≡ evaluated (F.Field.meaning f.now) x coefficients.now }
 {
     if x >= f.order() || !are_symbols(f, coefficients) {
         return Err(Refusal::BadArgument);
     }
-    let mut value = 0;
-    for i in (0..coefficients.len()).rev() {
-        value = add(f, coefficients[i], multiply(f, x, value));
-    }
-    Ok(value)
+    Ok(value(f, x, coefficients))
 }
 
-// Adds `a` times the word `v` to the word `out`, place by place. A refusal leaves `out` as it was.
+// Adds `a` times the word `v` to the word `out`, place by place, as far as both go; 0 in the place of a refusal.
+pub fn add_multiple<F: Field>(f: &F, out: &mut [u8], a: u8, v: &[u8])
+    ensures { out.new ≡ plus_scaled_or_0 (F.Field.meaning f.now) a out.old v.now }
+{
+    // A loop over `out.iter_mut().zip(v)` leaves open what `out` holds after it.
+    for (i, x) in out.iter_mut().enumerate() {
+        if i < v.len() {
+            *x = add(f, *x, multiply(f, a, v[i]));
+        }
+    }
+}
+
+// The same of two words of one length, refused where they are not that. A refusal leaves `out` as it was.
 pub fn add_scaled<F: Field>(f: &F, out: &mut [u8], a: u8, v: &[u8]) -> Result<(), Refusal>
     ensures answer { result ≡ done_if (addable (F.Field.meaning f.now) a out.old v.now) }
     ensures after { out.new ≡ (if addable (F.Field.meaning f.now) a out.old v.now then plus_scaled (F.Field.meaning f.now) a out.old v.now else out.old) }
@@ -70,8 +79,6 @@ pub fn add_scaled<F: Field>(f: &F, out: &mut [u8], a: u8, v: &[u8]) -> Result<()
     if a >= f.order() || !are_symbols(f, out) || !are_symbols(f, v) || out.len() != v.len() {
         return Err(Refusal::BadArgument);
     }
-    for i in 0..out.len() {
-        out[i] = add(f, out[i], multiply(f, a, v[i]));
-    }
+    add_multiple(f, out, a, v);
     Ok(())
 }

@@ -1,7 +1,8 @@
 // GF(p) for p = 3, 7 and 17: the numbers below p, with sum and product by remainder.
 #![tactic(auto)]
 
-ghost use Rattle.std.specs.Prelude.{◌≡◌, T};
+ghost use Rattle.std.specs.Prelude.{◌≡◌, ◌*◌, ◌%◌, ◌==◌, T};
+ghost use Rattle.std.specs.List.{find, range_with_len};
 ghost use Rattle.std.specs.Result.{result_map_both};
 ghost use Rattle.gfp.specs.Modulo.{supported, modulo, made};
 ghost use Rattle.gfp.specs.Remainders.{is_field};
@@ -24,6 +25,19 @@ impl GfP {
         } else {
             Err(Refusal::UnsupportedPrime)
         }
+    }
+
+    fn times(&self, a: u8, b: u8) -> u8
+        ensures { result ≡ a * b % self.now.p }
+    {
+        (u16::from(a) * u16::from(b) % u16::from(self.p)) as u8
+    }
+
+    // The few symbols are tried one after another.
+    fn inverse_of(&self, a: u8) -> Option<u8>
+        ensures { result ≡ find (λ b. a * b % self.now.p == 1) (range_with_len 0 self.now.p) }
+    {
+        (0..self.p).find(|b| self.times(a, *b) == 1)
     }
 }
 
@@ -54,19 +68,13 @@ impl Field for GfP {
         if a >= self.p || b >= self.p {
             return Err(Refusal::BadArgument);
         }
-        Ok((a as u16 * b as u16 % self.p as u16) as u8)
+        Ok(self.times(a, b))
     }
 
-    // The few symbols are tried one after another.
     fn inverse(&self, a: u8) -> Result<u8, Refusal> {
         if a == 0 || a >= self.p {
             return Err(Refusal::BadArgument);
         }
-        for b in 1..self.p {
-            if a as u16 * b as u16 % self.p as u16 == 1 {
-                return Ok(b);
-            }
-        }
-        unreachable()
+        self.inverse_of(a).ok_or(Refusal::BadArgument)
     }
 }

@@ -1,8 +1,7 @@
 -- What the calls of a plain chain answer, from what its functions over words found. Assumes nothing.
-use Rattle.std.proofs.Common.{◌≡◌, ℕ, ◌≤◌, Bool, true, false, T, List, length, take, Some, None, Ok, Err, Option, Result, sym, refl, ap, ◌∙◌, subst, arith}
-use Rattle.std.specs.Bool.{then_some}
+use Rattle.std.proofs.Common.{◌≡◌, ℕ, ◌-◌, ◌≤◌, Bool, true, false, cond, nat_lt, T, slice_index, List, length, take, None, Ok, Err, Result, sym, refl, ap, ◌∙◌, subst, arith}
 use Rattle.refusal.specs.declared.Refusal.{Refusal}
-use Rattle.refusal.specs.declared.Refusal.TheVariants.{BadArgument, NoLevelWord}
+use Rattle.refusal.specs.declared.Refusal.TheVariants.{BadArgument, LevelShape, NoLevelWord}
 use Rattle.field.specs.Meaning.{IsField}
 use Rattle.field.specs.Meaning as fields
 use Rattle.field.specs.Places.{distance}
@@ -11,16 +10,20 @@ use Rattle.chain.specs.Calls.{Encodes, Corrects, Strips}
 use Rattle.chain.specs.Meaning.{Meaning, Level, Word, radius}
 use Rattle.chain.proofs.Causes.{is_level_yes, encode_bad, correct_bad, correct_none, correct_done, strip_bad, strip_none, strip_done}
 use Rattle.chain.proofs.Facts.{message_near_is, message_near_none, message_of_is, message_of_none}
-use Rattle.plain.specs.Kinds.{plain, plain_flaw, sound, kind_at, kind_size, kind_distance, kind_word, is_kind}
+use Rattle.plain.specs.Kinds.{plain, plain_flaw, sound, kind_at, kind_size, kind_distance, kind_word, kind_of, kind_numbered, kind_told, is_kind}
 use Rattle.plain.specs.Words.{fits, BlockCorrected, BlockStripped}
-use Rattle.plain.specs.declared.words.Kind.{Kind}
+use Rattle.plain.specs.declared.kinds.Kind.{Kind}
 use Rattle.plain.specs.KindLaws as kinds
 use Rattle.plain.specs.Lawful.{Shape, shape, is_chain, plain_sound}
 
 -- a level that is there, with its kind
-there : (t : Bool) (k l : Kind) → ◌≡◌ {A = Option Kind} (Some k) (then_some t l) → T t × (k ≡ l)
-there true k l e = (tt, cc)
-there false k l e = absurd (let z : ◌≡◌ {A = ℕ} 0 1 = cc in omega arith)
+there : (t : Bool) (n : ℕ) (k : Kind) → ◌≡◌ {A = Result Kind Refusal} (Ok k) (cond t (kind_numbered n) (Err BadArgument)) → T t × (k ≡ kind_of n)
+there true n k e = (tt, numbered (nat_lt n 3) e)
+  where
+    numbered : (b : Bool) → ◌≡◌ {A = Result Kind Refusal} (Ok k) (cond b (Ok (kind_of n)) (Err LevelShape)) → k ≡ kind_of n
+    numbered true d = cc
+    numbered false d = absurd (let z : ◌≡◌ {A = ℕ} 0 1 = cc in omega arith)
+there false n k e = absurd (let z : ◌≡◌ {A = ℕ} 0 1 = cc in omega arith)
 
 module _ {F : fields.Meaning} (lawful : IsField F) (m : ℕ) (ks : List ℕ) (none : plain_flaw F m ks ≡ None) (i : ℕ) where
   -- what holds of the sound chain holds of the chain
@@ -33,12 +36,12 @@ module _ {F : fields.Meaning} (lawful : IsField F) (m : ℕ) (ks : List ℕ) (no
   pub two : 2 ≤ m
   two = formed.m_least
 
-  module _ (k : Kind) (is : ◌≡◌ {A = Option Kind} (Some k) (then_some (is_kind ks i) (kind_at ks i))) where
+  module _ (k : Kind) (is : ◌≡◌ {A = Result Kind Refusal} (Ok k) (kind_told ks i)) where
     level : Level (sound F m ks) i
-    level = is_level_yes (sound F m ks) i (there _ _ _ is).0
+    level = is_level_yes (sound F m ks) i (there (is_kind ks i) (slice_index ks (i - 1)) k is).0
 
     same : k ≡ kind_at ks i
-    same = (there (is_kind ks i) k (kind_at ks i) is).1
+    same = (there (is_kind ks i) (slice_index ks (i - 1)) k is).1
 
     pub encode_refused : (xs out : List ℕ) → (Word F (kind_size m k) xs → length out ≡ m → ⊥) → Encodes (plain F m ks) i xs out (Err BadArgument) out
     encode_refused xs out h =

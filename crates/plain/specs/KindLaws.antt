@@ -17,8 +17,8 @@ use Rattle.field.proofs.WordLaws.{symbol_at, total_closed}
 use Rattle.chain.specs.Meaning.{Word}
 use Rattle.plain.specs.Kinds.{kind_size, kind_distance, kind_word}
 use Rattle.plain.specs.Words.{fits, others}
-use Rattle.plain.specs.declared.words.Kind.{Kind}
-use Rattle.plain.specs.declared.words.Kind.TheVariants.{Every, ZeroSum, Repeated}
+use Rattle.plain.specs.declared.kinds.Kind.{Kind}
+use Rattle.plain.specs.declared.kinds.Kind.TheVariants.{Every, ZeroSum, Repeated}
 
 -- two different symbols, repeated, differ everywhere
 replicate_apart : (n a b : ℕ) → (a ≢ b) → distance (replicate n a) (replicate n b) ≡ n

@@ -1,21 +1,26 @@
 -- The plain chain: levels of three simple kinds. Assumes nothing.
-use Rattle.std.specs.Prelude.{ℕ, zero, suc, ◌-◌, Bool, true, false, not, ◌&&◌, ◌||◌, List, [], ◌∷◌, ◌++◌, length, replicate, Some, None, Option, ◌==◌, nat_le, slice_index}
+use Rattle.std.specs.Prelude.{ℕ, zero, suc, ◌-◌, Bool, cond, not, ◌&&◌, ◌||◌, List, [], ◌∷◌, ◌++◌, length, drop, replicate, zip, Some, None, Ok, Err, Option, Result, ◌==◌, nat_le, nat_lt, slice_index}
+use Rattle.std.specs.List.{list_all, list_any}
 use Rattle.std.specs.Option.{option_or}
 use Rattle.refusal.specs.declared.Refusal.{Refusal}
-use Rattle.refusal.specs.declared.Refusal.TheVariants.{ChainLength, LevelCount, LevelShape}
+use Rattle.refusal.specs.declared.Refusal.TheVariants.{BadArgument, ChainLength, LevelCount, LevelShape}
 use Rattle.field.specs.Meaning.{opposite_of}
 use Rattle.field.specs.Meaning as fields
 use Rattle.field.specs.Words.{total, symbols}
 use Rattle.chain.specs.Answers.{unless}
 use Rattle.chain.specs.Meaning.{Meaning, flawed}
-use Rattle.plain.specs.declared.words.Kind.{Kind}
-use Rattle.plain.specs.declared.words.Kind.TheVariants.{Every, ZeroSum, Repeated}
+use Rattle.plain.specs.declared.kinds.Kind.{Kind}
+use Rattle.plain.specs.declared.kinds.Kind.TheVariants.{Every, ZeroSum, Repeated}
 
 -- the kind of a level by its number
 abbrev pub kind_of : ℕ → Kind
 kind_of zero = Every
 kind_of (suc zero) = ZeroSum
 kind_of (suc (suc n)) = Repeated
+
+-- a number from 3 on is none
+abbrev pub kind_numbered : ℕ → Result Kind Refusal
+kind_numbered n = cond (nat_lt n 3) (Ok (kind_of n)) (Err LevelShape)
 
 abbrev pub kind_size : ℕ → Kind → ℕ
 kind_size m Every = m
@@ -35,13 +40,10 @@ kind_word F m Repeated xs = replicate m (slice_index xs 0)
 
 -- kinds never fall from one level to the next
 abbrev pub rising : List ℕ → Bool
-rising [] = true
-rising (k ∷ []) = true
-rising (k ∷ l ∷ ks) = nat_le k l && rising (l ∷ ks)
+rising ks = list_all (λ p. nat_le p.0 p.1) (zip ks (drop 1 ks))
 
 abbrev pub has : ℕ → List ℕ → Bool
-has k [] = false
-has k (l ∷ ks) = k == l || has k ks
+has k ks = list_any (λ l. k == l) ks
 
 -- 1 added n times
 abbrev pub ones : fields.Meaning → ℕ → ℕ
@@ -64,6 +66,10 @@ is_kind ks i = nat_le 1 i && nat_le i (length ks)
 -- the kind of level i
 abbrev pub kind_at : List ℕ → ℕ → Kind
 kind_at ks i = kind_of (slice_index ks (i - 1))
+
+-- the kind of a level that is there and whose number is one
+abbrev pub kind_told : List ℕ → ℕ → Result Kind Refusal
+kind_told ks i = cond (is_kind ks i) (kind_numbered (slice_index ks (i - 1))) (Err BadArgument)
 
 abbrev pub sound : fields.Meaning → ℕ → List ℕ → Meaning
 sound F m ks = record {

@@ -18,8 +18,8 @@ use Rattle.chain.specs.Answers.{unless}
 use Rattle.chain.specs.Meaning.{IsChain, Lawful, Level, OfLevel, Word, flawed}
 use Rattle.plain.specs.Kinds.{kind_of, kind_at, kind_size, kind_distance, kind_word, rising, has, ones, kinds_fit, plain_flaw, sound, sound_unless, plain}
 use Rattle.plain.specs.Words.{fits}
-use Rattle.plain.specs.declared.words.Kind.{Kind}
-use Rattle.plain.specs.declared.words.Kind.TheVariants.{Every, ZeroSum, Repeated}
+use Rattle.plain.specs.declared.kinds.Kind.{Kind}
+use Rattle.plain.specs.declared.kinds.Kind.TheVariants.{Every, ZeroSum, Repeated}
 use Rattle.plain.specs.KindLaws as kinds
 
 -- what the tests of a chain without a flaw say
@@ -160,6 +160,10 @@ plain_flawed F m ks r e = ap (λ f. sound_unless f F m ks) e
 pub flaw_is : (F : fields.Meaning) (m : ℕ) (ks : List ℕ) (f : Option Refusal) → (sound_unless f F m ks).flaw ≡ f
 flaw_is F m ks None = refl
 flaw_is F m ks (Some r) = refl
+
+pub field_is : (F : fields.Meaning) (m : ℕ) (ks : List ℕ) (f : Option Refusal) → (sound_unless f F m ks).field ≡ F
+field_is F m ks None = refl
+field_is F m ks (Some r) = refl
 
 pub is_lawful : {F : fields.Meaning} → IsField F → (m : ℕ) (ks : List ℕ) → Lawful (plain F m ks)
 is_lawful {F} lawful m ks none =

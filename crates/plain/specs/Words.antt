@@ -7,8 +7,8 @@ use Rattle.field.specs.Places.{distance}
 use Rattle.field.specs.Words.{total}
 use Rattle.chain.specs.Meaning.{Word, radius}
 use Rattle.plain.specs.Kinds.{kind_size, kind_distance, kind_word}
-use Rattle.plain.specs.declared.words.Kind.{Kind}
-use Rattle.plain.specs.declared.words.Kind.TheVariants.{Every, ZeroSum, Repeated}
+use Rattle.plain.specs.declared.kinds.Kind.{Kind}
+use Rattle.plain.specs.declared.kinds.Kind.TheVariants.{Every, ZeroSum, Repeated}
 
 -- the number of places that do not hold x
 abbrev pub others : ℕ → List ℕ → ℕ

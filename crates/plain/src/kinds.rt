@@ -1,91 +1,52 @@
-// The kinds of a plain chain's levels, its making and its flaw.
-ghost use Rattle.std.specs.Prelude.{◌≡◌, ◌≤◌, ◌==◌};
-ghost use Rattle.chain.specs.Held.{held};
-ghost use Rattle.field.specs.Words.{symbols};
-ghost use Rattle.plain.specs.Kinds.{plain, plain_flaw, kinds_fit, rising, has, ones};
+// The kinds of a plain chain's levels.
+ghost use Rattle.std.specs.Prelude.{◌≡◌};
+ghost use Rattle.plain.specs.Kinds.{kind_size, kind_distance, kind_numbered};
 
-use crate::Plain;
-use chain::LevelNumbers;
-use field::{Field, total};
 use refusal::Refusal;
 
-impl<F: Field> Plain<F> {
-    pub fn new(field: F, m: usize, kinds: &[u8]) -> Plain<F>
-        ensures { plain (F.Field.meaning result.field) result.m (held result.kinds) ≡ plain (F.Field.meaning field) m kinds.now }
+#[derive(Clone, Copy, PartialEq, Eq, Debug)]
+pub enum Kind {
+    // Every word.
+    Every,
+    // The symbols add to 0.
+    ZeroSum,
+    // One symbol repeated.
+    Repeated,
+}
+
+impl TryFrom<u8> for Kind {
+    type Error = Refusal;
+
+    ghost try_from_gives = { λ number r. r ≡ kind_numbered number };
+
+    fn try_from(number: u8) -> Result<Kind, Refusal> {
+        match number {
+            0 => Ok(Kind::Every),
+            1 => Ok(Kind::ZeroSum),
+            2 => Ok(Kind::Repeated),
+            _ => Err(Refusal::LevelShape),
+        }
+    }
+}
+
+impl Kind {
+    pub(crate) fn size(self, m: usize) -> usize
+        ensures { result ≡ kind_size m self }
     {
-        // More kinds than four have the same flaw as none.
-        let kinds = LevelNumbers::of(kinds);
-        Plain { field, m, kinds }
+        match self {
+            Kind::Every => m,
+            Kind::ZeroSum => m.saturating_sub(1),
+            Kind::Repeated => 1,
+        }
     }
 
-    // The least refusal that applies to the chain as it was made.
-    pub(crate) fn find_flaw(&self) -> Option<Refusal>
-        ensures { result ≡ plain_flaw (F.Field.meaning self.now.field) self.now.m (held self.now.kinds) }
+    pub(crate) fn distance(self, m: usize) -> usize
+        ensures { result ≡ kind_distance m self }
     {
-        let kinds = self.kinds.as_slice();
-        if self.m < 2 || self.m > 32 {
-            return Some(Refusal::ChainLength);
+        match self {
+            Kind::Every => 1,
+            Kind::ZeroSum => 2,
+            Kind::Repeated => m,
         }
-        if kinds.is_empty() {
-            return Some(Refusal::LevelCount);
-        }
-        if !do_fit(&self.field, self.m, kinds) {
-            return Some(Refusal::LevelShape);
-        }
-        None
-    }
-}
-
-fn do_fit<F: Field>(f: &F, m: usize, kinds: &[u8]) -> bool
-    requires { m ≤ 32 }
-    ensures { result ≡ kinds_fit (F.Field.meaning f.now) m kinds.now }
-{
-    are_known(kinds)
-        && never_fall(kinds)
-        && (!(occurs(1, kinds) && occurs(2, kinds)) || adds_to_zero(f, m))
-}
-
-fn are_known(kinds: &[u8]) -> bool
-    ensures { result ≡ symbols 3 kinds.now }
-{
-    for k in kinds {
-        if *k >= 3 {
-            return false;
-        }
-    }
-    true
-}
-
-fn never_fall(kinds: &[u8]) -> bool
-    ensures { result ≡ rising kinds.now }
-{
-    for i in 1..kinds.len() {
-        if kinds[i - 1] > kinds[i] {
-            return false;
-        }
-    }
-    true
-}
-
-fn occurs(kind: u8, kinds: &[u8]) -> bool
-    ensures { result ≡ has kind kinds.now }
-{
-    for k in kinds {
-        if *k == kind {
-            return true;
-        }
-    }
-    false
-}
-
-// Whether 1 added m times is 0.
-fn adds_to_zero<F: Field>(f: &F, m: usize) -> bool
-    requires { m ≤ 32 }
-    ensures { result ≡ (ones (F.Field.meaning f.now) m == 0) }
-{
-    let each = [1; 32];
-    match total(f, &each[0..m]) {
-        Ok(sum) => sum == 0,
-        Err(_) => false,
     }
 }

@@ -1,5 +1,5 @@
 -- What a call answers, as text, from its contract. Assumes nothing.
-use Rattle.std.proofs.Common.{◌≡◌, ℕ, min, Bool, true, false, ◌&&◌, eqb, leb, List, [], ◌++◌, length, take, is_some, IfOk, Some, None, Option, Result, unwrap_or, refl, ap, ◌∙◌, subst, arith}
+use Rattle.std.proofs.Common.{◌≡◌, ℕ, min, Bool, true, false, ◌&&◌, eqb, leb, List, [], ◌++◌, length, take, is_some, Some, None, Option, Result, unwrap_or, refl, ap, ◌∙◌, arith}
 use Rattle.std.specs.Option.{option_or}
 use Rattle.std.specs.Result as results
 use Rattle.std.proofs.lemmas.List.{take_all, take-append-le}
@@ -26,10 +26,6 @@ told_is (Some x) done old = refl
 -- the text of a call that answered r and left `kept`, by the cause o of a refusal
 pub told_by : (o : Option Refusal) (done old : List ℕ) {r : Result (Unit {0}) Refusal} {kept seen : List ℕ} → seen ≡ kept → r ≡ answer o → kept ≡ left o done old → told r seen ≡ told_unless o done
 told_by o done old {r} back e f = ap (told r) (back ∙ f) ∙ ap (λ q. told q (left o done old)) e ∙ told_is o done old
-
--- a text of other bytes that are the same
-pub text_is : {X E : Type 0} (text : Result X E) (bytes : X → List ℕ) {s t : List ℕ} → s ≡ t → IfOk text (λ x. bytes x ≡ s) → IfOk text (λ x. bytes x ≡ t)
-text_is text bytes e is = subst (λ t. IfOk text (λ x. bytes x ≡ t)) e is
 
 -- where there is a flaw, the length of the output does not matter
 flaw_first : (o : Option Refusal) (f : ℕ → Option Refusal) (n m : ℕ) → n ≡ answers.told o m → option_or o (f n) ≡ option_or o (f m)

@@ -1,5 +1,5 @@
 -- One turn of the writing of a list. Assumes nothing.
-use Rattle.std.proofs.Common.{◌≡◌, ℕ, ◌+◌, ◌<◌, ◌≤◌, List, ◌∷◌, ◌++◌, length, get_or, take, decimal, sym, refl, ap, ◌∙◌, subst, append_assoc, add-one}
+use Rattle.std.proofs.Common.{◌≡◌, ℕ, ◌+◌, ◌<◌, ◌≤◌, List, ◌∷◌, ◌++◌, length, get_or, take, decimal, sym, ap, ◌∙◌, append_assoc, zero, suc, ◌-◌, arith}
 use Rattle.std.specs.List.{flat_map}
 use Rattle.std.proofs.lemmas.List.{take_all, take_more, flat_map_more}
 use Rattle.code.specs.Numbers.{joined_to}
@@ -16,12 +16,14 @@ pub symbols_whole : {begun all ws : List ℕ} (x : ℕ) (xs : List ℕ) (i : ℕ
 symbols_whole x xs i h split was is =
     is ∙ ap (λ s. s ++ flat_map spaced (take i xs)) was ∙ ap (λ ys. decimal x ++ flat_map spaced ys) (take_all i xs h) ∙ sym (ap listed split)
 
--- a line more
-pub line_more : (front : List ℕ) {sofar next : List ℕ} (f : ℕ → List ℕ) (i : ℕ) → sofar ≡ front ++ joined_to f i → next ≡ sofar ++ f (i + 1) → next ≡ front ++ joined_to f (i + 1)
-line_more front f i was is =
-    is ∙ ap (λ s. s ++ f (i + 1)) was ∙ append_assoc front (joined_to f i) (f (i + 1))
-    ∙ ap (λ s. front ++ s) (subst (λ n. joined_to f i ++ f n ≡ joined_to f n) (sym (add-one i)) refl)
+-- part i after those below it
+pub part_more : (front : List ℕ) {sofar next : List ℕ} (f : ℕ → List ℕ) (i k : ℕ) → 1 ≤ i → i ≡ k → sofar ≡ front ++ joined_to f (i - 1) → next ≡ sofar ++ f i → next ≡ front ++ joined_to f k
+part_more front f zero k h e was is = absurd (omega (arith, h))
+part_more front f (suc n) k h e was is =
+    let back : suc n - 1 ≡ n = omega arith in
+    is ∙ ap (λ s. s ++ f (suc n)) (was ∙ ap (λ j. front ++ joined_to f j) back) ∙ append_assoc front (joined_to f n) (f (suc n))
+    ∙ ap (λ j. front ++ joined_to f j) e
 
--- all lines
-pub lines_whole : {begun all front : List ℕ} (f : ℕ → List ℕ) {i n : ℕ} → begun ≡ front → i ≡ n → all ≡ begun ++ joined_to f i → all ≡ front ++ joined_to f n
-lines_whole {front = front} f {i} was e is = is ∙ ap (λ s. s ++ joined_to f i) was ∙ ap (λ k. front ++ joined_to f k) e
+-- n parts after a text
+pub parts_whole : {begun all front : List ℕ} (f : ℕ → List ℕ) {n k : ℕ} → all ≡ begun ++ joined_to f n → begun ≡ front → n ≡ k → all ≡ front ++ joined_to f k
+parts_whole {front = front} f {n} is was e = is ∙ ap (λ s. s ++ joined_to f n) was ∙ ap (λ j. front ++ joined_to f j) e

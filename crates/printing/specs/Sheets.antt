@@ -1,7 +1,7 @@
 -- The lines of a parameter sheet, each after a newline. Assumes nothing.
 use Rattle.std.specs.Prelude.{ℕ, List, ◌∷◌, ◌++◌, Some, None, codes, decimal, Option}
 use Rattle.refusal.specs.declared.Refusal.{Refusal}
-use Rattle.refusal.specs.Numbers.{refusal_number}
+use Rattle.refusal.specs.Numbers.{refusal_number, number_or_0}
 use Rattle.chain.specs.Answers.{told}
 use Rattle.chain.specs.Meaning.{radius}
 use Rattle.chain.specs.Meaning as chains
@@ -9,11 +9,6 @@ use Rattle.code.specs.Meaning.{entry_at}
 use Rattle.code.specs.Meaning as codes_of
 use Rattle.code.specs.Numbers.{code_flaw, k_of, n_of, d_of, t_of, choices_of, joined_to}
 use Rattle.printing.specs.Texts.{spaced}
-
--- the number of a flaw, 0 where there is none
-abbrev pub number_or_0 : Option Refusal → ℕ
-number_or_0 None = 0
-number_or_0 (Some r) = refusal_number r
 
 -- the size, the distance and the radius of level i
 abbrev pub level_line : chains.Meaning → ℕ → List ℕ

@@ -3,7 +3,7 @@ ghost use Rattle.std.specs.Prelude.{◌≡◌, IfOk, string_bytes};
 ghost use Rattle.code.specs.Held.{meant};
 ghost use Rattle.printing.specs.Texts.{encoded_text, corrected_text, stripped_text, codeword_text};
 
-use crate::symbols::told;
+use crate::symbols::{told, written};
 use chain::Chain;
 use code::Code;
 use std::alloc::{AllocError, Global};
@@ -12,6 +12,7 @@ use std::alloc::{AllocError, Global};
 const MOST_SCRATCH: usize = 65536;
 
 // The word of a level's message.
+// Heap, chain and level stay parameters: each caller makes one call, so a struct of them would be made only to be taken apart.
 pub fn encode_level<C: Chain>(
     heap: Global,
     chain: &C,
@@ -20,9 +21,11 @@ pub fn encode_level<C: Chain>(
 ) -> Result<String, AllocError>
     ensures { IfOk result (λ s. string_bytes s ≡ encoded_text (C.Chain.meaning chain.now) level message.now) }
 {
-    let mut out = vec![in heap; 0u8; chain.length()]?;
-    let result = chain.encode(level, message, out.as_mut_slice());
-    told(heap, result, out.as_slice())
+    written(
+        heap,
+        chain.length(),
+        |out| chain.encode(level, message, out),
+    )
 }
 
 // The level's word that is near enough to a block, searched for with so many bytes of scratch.
@@ -50,16 +53,16 @@ pub fn strip_level<C: Chain>(
 ) -> Result<String, AllocError>
     ensures { IfOk result (λ s. string_bytes s ≡ stripped_text (C.Chain.meaning chain.now) level block.now) }
 {
-    let mut out = vec![in heap; 0u8; chain.size(level).unwrap_or(0)]?;
-    let result = chain.strip(level, block, out.as_mut_slice());
-    told(heap, result, out.as_slice())
+    written(
+        heap,
+        chain.size(level).unwrap_or(0),
+        |out| chain.strip(level, block, out),
+    )
 }
 
 // The codeword of a message.
 pub fn encode<C: Chain>(heap: Global, code: &Code<C>, message: &[u8]) -> Result<String, AllocError>
     ensures { IfOk result (λ s. string_bytes s ≡ codeword_text (meant C.Chain.meaning code.now) message.now) }
 {
-    let mut out = vec![in heap; 0u8; code.word_length()]?;
-    let result = code.encode(message, out.as_mut_slice());
-    told(heap, result, out.as_slice())
+    written(heap, code.word_length(), |out| code.encode(message, out))
 }

@@ -6,4 +6,4 @@ mod sheet;
 mod symbols;
 
 pub use calls::{correct_level, encode, encode_level, strip_level};
-pub use sheet::{chain_lines, code_lines, flaw_number};
+pub use sheet::{chain_lines, code_lines};

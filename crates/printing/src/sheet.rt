@@ -1,23 +1,29 @@
 // The lines of a parameter sheet for a chain and for a code, each after a newline.
-ghost use Rattle.std.specs.Prelude.{◌≡◌, IfOk, None, string_bytes};
+ghost use Rattle.std.specs.Prelude.{◌≡◌, ℕ, ◌≤◌, ◌++◌, List, IfOk, OnOk, None, string_bytes};
 ghost use Rattle.chain.specs.Meaning.{Level};
 ghost use Rattle.code.specs.Held.{meant};
-ghost use Rattle.code.specs.Numbers.{code_flaw};
-ghost use Rattle.printing.specs.Sheets.{number_or_0, level_line, chain_lines as lines_of_chain, row_line, numbers_line, details as details_of, code_lines as lines_of_code};
+ghost use Rattle.code.specs.Numbers.{code_flaw, joined_to};
+ghost use Rattle.printing.specs.Sheets.{level_line, chain_lines as lines_of_chain, row_line, numbers_line, details as details_of, code_lines as lines_of_code};
 
 use chain::{Chain, radius};
 use code::Code;
 use refusal::Refusal;
 use std::alloc::{AllocError, Global};
 
-// The number of a flaw, 0 where there is none.
-pub fn flaw_number(flaw: Option<Refusal>) -> u8
-    ensures { result ≡ number_or_0 flaw }
+// Adds part 1 to part n.
+fn push_parts<F: Fn(usize) -> Result<String, AllocError>>(
+    text: &mut String,
+    n: usize,
+    part: F,
+) -> Result<(), AllocError>
+    requires { (i : ℕ) → 1 ≤ i → i ≤ n → F.pre part i }
+    ensures { (texts : ℕ → List ℕ) → ((i : ℕ) → 1 ≤ i → i ≤ n → (r : _) → F.post part i r → IfOk r (λ s. string_bytes s ≡ texts i)) → OnOk result (string_bytes text.new ≡ string_bytes text.old ++ joined_to texts n) }
 {
-    match flaw {
-        Some(refusal) => refusal.number(),
-        None => 0,
+    for i in 1..=n {
+        let next = part(i)?;
+        text.push_str(next.as_str())?;
     }
+    Ok(())
 }
 
 fn level_line<C: Chain>(heap: Global, chain: &C, level: usize) -> Result<String, AllocError>
@@ -35,14 +41,11 @@ fn level_line<C: Chain>(heap: Global, chain: &C, level: usize) -> Result<String,
 pub fn chain_lines<C: Chain>(heap: Global, chain: &C) -> Result<String, AllocError>
     ensures { IfOk result (λ s. string_bytes s ≡ lines_of_chain (C.Chain.meaning chain.now)) }
 {
-    let flaw = flaw_number(chain.flaw());
+    let flaw = Refusal::number_or_0(chain.flaw());
     let m = chain.length();
     let s = chain.levels();
     let mut text = format!(in heap; "\nchain flaw {flaw} m {m} s {s}")?;
-    for i in 0..s {
-        let line = level_line(heap, chain, i + 1)?;
-        text.push_str(line.as_str())?;
-    }
+    push_parts(&mut text, s, |level| level_line(heap, chain, level))?;
     Ok(text)
 }
 
@@ -52,11 +55,10 @@ fn row_line<C: Chain>(heap: Global, code: &Code<C>, row: usize) -> Result<String
     ensures { IfOk result (λ s. string_bytes s ≡ row_line (meant C.Chain.meaning code.now) row) }
 {
     let mut text = String::from_str(heap, "\nrow")?;
-    for j in 0..code.columns() {
-        let entry = code.entry(row, j + 1);
-        let more = format!(in heap; " {entry}")?;
-        text.push_str(more.as_str())?;
-    }
+    push_parts(&mut text, code.columns(), |column| {
+        let entry = code.entry(row, column);
+        format!(in heap; " {entry}")
+    })?;
     Ok(text)
 }
 
@@ -78,10 +80,11 @@ fn details<C: Chain>(heap: Global, code: &Code<C>) -> Result<String, AllocError>
     ensures { IfOk result (λ s. string_bytes s ≡ details_of (meant C.Chain.meaning code.now)) }
 {
     let mut text = String::new(heap);
-    for i in 0..code.chain().levels() {
-        let line = row_line(heap, code, i + 1)?;
-        text.push_str(line.as_str())?;
-    }
+    push_parts(
+        &mut text,
+        code.chain().levels(),
+        |row| row_line(heap, code, row),
+    )?;
     let line = numbers_line(heap, code)?;
     text.push_str(line.as_str())?;
     Ok(text)

@@ -1,5 +1,7 @@
 // Symbols and refusals as text.
-ghost use Rattle.std.specs.Prelude.{◌≡◌, IfOk, string_bytes};
+ghost use Rattle.std.specs.Prelude.{◌≡◌, IfOk, List, ℕ, Result, length, string_bytes};
+ghost use Rattle.std.specs.Borrow.{MutBor};
+ghost use Rattle.refusal.specs.declared.Refusal.{Refusal};
 ghost use Rattle.printing.specs.Texts.{listed as listed_text, told as told_text};
 
 use refusal::Refusal;
@@ -14,8 +16,7 @@ fn listed(heap: Global, symbols: &[u8]) -> Result<String, AllocError>
     };
     let mut text = format!(in heap; "{first}")?;
     for symbol in rest {
-        let more = format!(in heap; " {symbol}")?;
-        text.push_str(more.as_str())?;
+        write!(text, " {symbol}")?;
     }
     Ok(text)
 }
@@ -32,4 +33,18 @@ pub(crate) fn told(
         Ok(()) => listed(heap, written),
         Err(refusal) => format!(in heap; "{refusal}"),
     }
+}
+
+// What a call writes into n places, or its refusal.
+pub(crate) fn written<F: FnOnce(&mut [u8]) -> Result<(), Refusal>>(
+    heap: Global,
+    n: usize,
+    call: F,
+) -> Result<String, AllocError>
+    requires { F.IsAlwaysCallable call }
+    ensures { IfOk result (λ s. (before : MutBor (List ℕ)) × (res : Result (Unit {0}) Refusal) × (after : MutBor (List ℕ)) × (length before.now ≡ n) × F.post call before res after × (string_bytes s ≡ told_text res after.now)) }
+{
+    let mut out = vec![in heap; 0u8; n]?;
+    let result = call(out.as_mut_slice());
+    told(heap, result, out.as_slice())
 }

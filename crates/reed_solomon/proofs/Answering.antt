@@ -1,5 +1,6 @@
 -- From what the decoder found to what the chain's calls answer. Assumes nothing.
-use Rattle.std.proofs.Common.{◌≡◌, ℕ, ◌-◌, ◌/◌, ◌≤◌, true, false, ◌&&◌, T, leb, List, length, Some, None, Ok, Err, Result, sym, refl, ap, ◌∙◌, subst, arith}
+use Rattle.std.proofs.Common.{◌≡◌, ℕ, ◌-◌, ◌/◌, ◌≤◌, ◌&&◌, T, leb, List, length, Some, None, Option, Ok, Err, Result, sym, refl, ap, ◌∙◌, subst, arith}
+use Rattle.std.specs.Option.{ok_or}
 use Rattle.refusal.specs.declared.Refusal.{Refusal}
 use Rattle.refusal.specs.declared.Refusal.TheVariants.{NoLevelWord}
 use Rattle.field.specs.Answers.{provided}
@@ -13,7 +14,7 @@ use Rattle.chain.specs.Meaning as chains
 use Rattle.chain.proofs.Causes.{is_level_yes, correct_done, correct_none, strip_done, strip_none}
 use Rattle.chain.proofs.Facts.{message_near_is, message_near_none, message_of_is, message_of_none}
 use Rattle.reed_solomon.specs.Code.{rs_word, flaw, size_of, sound, sound_unless, reed_solomon}
-use Rattle.reed_solomon.specs.Decoding.{Message, Near, Corrected, Read}
+use Rattle.reed_solomon.specs.Decoding.{Message, Near, Nearest, Read}
 use Rattle.reed_solomon.specs.Lawfulness.{sound_chain}
 use Rattle.reed_solomon.specs.Sizes.{fit, provided_is}
 
@@ -64,28 +65,30 @@ module _ (F : Meaning) (laws : IsField F) (m : ℕ) (ks : List ℕ) (none : None
       (λ xs hx near. far xs (from_message xs hx, subst (λ w. distance w b ≤ (length b - k) / 2) (sym (word_at xs)) (subst (λ t. distance (rs_word F m xs) b ≤ t) (sym radius_is) near)))
 
   -- what the scratch holds after a search is open
-  pub correct_yes : (scratch used b' : List ℕ) → 4096 ≤ length scratch → Corrected F k ((length b - k) / 2) b true b' → Corrects (reed_solomon F m ks) i b scratch (Ok tt) b' used
-  correct_yes scratch used b' h (xs, near, is) =
-      subst (λ C. Corrects C i b scratch (Ok tt) b' used) is_sound
-      (subst (λ w. Corrects S i b scratch (Ok tt) w used) (sym (is ∙ word_at xs)) (correct_done S i b scratch used xs refl level word h (found xs near)))
+  pub corrected : (scratch used w : List ℕ) → 4096 ≤ length scratch → Nearest F k ((length b - k) / 2) b (Some tt) w → Corrects (reed_solomon F m ks) i b scratch (Ok tt) w used
+  corrected scratch used w h (xs, near, is) =
+      subst (λ C. Corrects C i b scratch (Ok tt) w used) is_sound
+      (subst (λ v. Corrects S i b scratch (Ok tt) v used) (sym (is ∙ word_at xs)) (correct_done S i b scratch used xs refl level word h (found xs near)))
 
-  pub correct_no : (scratch used b' : List ℕ) → 4096 ≤ length scratch → Corrected F k ((length b - k) / 2) b false b' → Corrects (reed_solomon F m ks) i b scratch (Err NoLevelWord) b' used
-  correct_no scratch used b' h (is, far) =
-      subst (λ C. Corrects C i b scratch (Err NoLevelWord) b' used) is_sound
-      (subst (λ w. Corrects S i b scratch (Err NoLevelWord) w used) (sym is) (correct_none S i b scratch used refl level word h (missing far)))
+  pub uncorrected : (scratch used w : List ℕ) → 4096 ≤ length scratch → Nearest F k ((length b - k) / 2) b None w → Corrects (reed_solomon F m ks) i b scratch (Err NoLevelWord) b used
+  uncorrected scratch used w h far = subst (λ C. Corrects C i b scratch (Err NoLevelWord) b used) is_sound (correct_none S i b scratch used refl level word h (missing far))
 
   -- strip
   module _ (out : List ℕ) (lo : length out ≡ k) where
-    read : (out' : List ℕ) → Read F b out true out' → message_of S i b ≡ Some out'
+    read : (out' : List ℕ) → Read F b out (Some tt) out' → message_of S i b ≡ Some out'
     read out' ((l, t), e) = message_of_is chain i level b out' (to_message out' (l ∙ lo, t)) (sym (word_at out') ∙ e)
 
-    unread : (out' : List ℕ) → Read F b out false out' → message_of S i b ≡ None
+    unread : (out' : List ℕ) → Read F b out None out' → message_of S i b ≡ None
     unread out' (is, no_word) = message_of_none chain i level b (λ xs hx e. no_word xs (hx.long ∙ sym (lo ∙ k_is), hx.all) (word_at xs ∙ e))
 
-    pub strip_yes : (out' : List ℕ) → Read F b out true out' → Strips (reed_solomon F m ks) i b out (Ok tt) out'
+    strip_yes : (out' : List ℕ) → Read F b out (Some tt) out' → Strips (reed_solomon F m ks) i b out (Ok tt) out'
     strip_yes out' h = subst (λ C. Strips C i b out (Ok tt) out') is_sound (strip_done S i b out out' refl level word (lo ∙ k_is) (read out' h))
 
-    pub strip_no : (out' : List ℕ) → Read F b out false out' → Strips (reed_solomon F m ks) i b out (Err NoLevelWord) out'
+    strip_no : (out' : List ℕ) → Read F b out None out' → Strips (reed_solomon F m ks) i b out (Err NoLevelWord) out'
     strip_no out' h =
         subst (λ C. Strips C i b out (Err NoLevelWord) out') is_sound
         (subst (λ w. Strips S i b out (Err NoLevelWord) w) (sym h.0) (strip_none S i b out refl level word (lo ∙ k_is) (unread out' h)))
+
+    pub stripped : (o : Option (Unit {0})) (out' : List ℕ) → Read F b out o out' → Strips (reed_solomon F m ks) i b out (ok_or o NoLevelWord) out'
+    stripped (Some u) out' h = strip_yes out' h
+    stripped None out' h = strip_no out' h

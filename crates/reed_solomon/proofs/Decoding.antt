@@ -1,5 +1,5 @@
 -- Why the decoder's answers are right. Assumes nothing.
-use Rattle.std.proofs.Common.{◌≡◌, ℕ, ◌+◌, ◌<◌, ◌≤◌, Bool, true, false, T, eqb, List, [], ◌∷◌, ◌++◌, length, take, drop, set, replicate, sym, refl, ap, ◌∙◌, subst, ap₂, arith, length-drop, length-take}
+use Rattle.std.proofs.Common.{◌≡◌, ℕ, ◌+◌, ◌<◌, ◌≤◌, Some, None, Option, T, eqb, List, [], ◌∷◌, ◌++◌, length, take, drop, set, replicate, sym, refl, ap, ◌∙◌, subst, ap₂, arith, length-drop, length-take}
 use Rattle.std.proofs.lemmas.List.{take_more_set, length-append}
 use Rattle.std.proofs.ByRecursion.{All-take, All-drop, All-append}
 use Rattle.field.specs.Meaning.{Meaning, IsField}
@@ -17,7 +17,7 @@ use Rattle.algebra.proofs.CorrectionNumbers.{locator_exists, locator_agrees, agr
 use Rattle.algebra.proofs.EquationsNumbers.{solves_locator_numbers, solves_locator_parts_numbers, solves_message_numbers}
 use Rattle.algebra.proofs.EvaluationNumbers.{value_symbol}
 use Rattle.reed_solomon.specs.Code.{points, rs_word}
-use Rattle.reed_solomon.specs.Decoding.{Read, Near, LocatedOrFar, Corrected}
+use Rattle.reed_solomon.specs.Decoding.{Read, Near, LocatedOrFar, Nearest}
 use Rattle.reed_solomon.specs.Rows.{Outcome, rows_with}
 use Rattle.reed_solomon.specs.Points.{length_points, points_below, points_different, word_is}
 use Rattle.reed_solomon.specs.Words.{all_symbols, symbols_all}
@@ -68,26 +68,26 @@ module _ (F : Meaning) (laws : IsField F) where
     near_values t g h = subst (λ z. distance z b ≤ t) (word_is F (length b) g) h
 
     -- the second system
-    pub message_agrees : (k : ℕ) (l f : List ℕ) → Symbols F l → length f ≡ k → Outcome F (message_rows N k l P b) k true f → Agrees N P b l f
+    pub message_agrees : (k : ℕ) (l f : List ℕ) → Symbols F l → length f ≡ k → Outcome F (message_rows N k l P b) k (Some tt) f → Agrees N P b l f
     message_agrees k l f sl lf (s, h) = (solves_message_numbers F laws k P b l f sP sb sl s long lf).0 h
 
-    pub message_missing : (k : ℕ) (l f g : List ℕ) → Symbols F l → Symbols F g → length g ≡ k → Outcome F (message_rows N k l P b) k false f → Agrees N P b l g → ⊥
+    pub message_missing : (k : ℕ) (l f g : List ℕ) → Symbols F l → Symbols F g → length g ≡ k → Outcome F (message_rows N k l P b) k None f → Agrees N P b l g → ⊥
     message_missing k l f g sl sg lg h agrees = h (g, lg, sg, (solves_message_numbers F laws k P b l g sP sb sl sg long lg).1 agrees)
 
     -- reading a word
-    pub read_yes : (out xs out' : List ℕ) → length xs ≡ length out → out' ≡ xs → Outcome F (rows_with F (length out) (1 ∷ []) P b) (length out) true xs → Read F b out true out'
+    pub read_yes : (out xs out' : List ℕ) → length xs ≡ length out → out' ≡ xs → Outcome F (rows_with F (length out) (1 ∷ []) P b) (length out) (Some tt) xs → Read F b out (Some tt) out'
     read_yes out xs out' lx is h =
         let word = word_is F (length b) xs ∙ agrees_one xs P b h.0 sP sb (message_agrees (length out) [] xs tt lx h) in
         ((ap length is ∙ lx, subst (λ z. T (symbols F.q z)) (sym is) (symbols_all F xs h.0)), ap (rs_word F (length b)) is ∙ word)
 
-    pub read_no : (out f : List ℕ) → Outcome F (rows_with F (length out) (1 ∷ []) P b) (length out) false f → Read F b out false out
+    pub read_no : (out f : List ℕ) → Outcome F (rows_with F (length out) (1 ∷ []) P b) (length out) None f → Read F b out None out
     read_no out f h = (
       refl,
       (λ xs (lx, tx) e. message_missing (length out) [] f xs tt (all_symbols F xs tx) lx h (subst (λ z. Agrees N P z [] xs) (sym (word_is F (length b) xs) ∙ e) (agrees_itself [] xs P))),
     )
 
     -- the first system
-    pub located_free : (k t : ℕ) (xs : List ℕ) → t ≡ 0 → Symbols F xs → LocatedOrFar F k t b true xs
+    pub located_free : (k t : ℕ) (xs : List ℕ) → t ≡ 0 → Symbols F xs → LocatedOrFar F k t b (Some tt) xs
     located_free k t xs none s = (
       s,
       (λ g ((lg, tg), near).
@@ -95,8 +95,8 @@ module _ (F : Meaning) (laws : IsField F) where
           subst (λ z. Agrees N P z (take t xs) g) (sym (word_is F (length b) g) ∙ same) (agrees_itself (take t xs) g P)),
     )
 
-    pub located_found : (k t : ℕ) (xs : List ℕ) (r : Bool) (n : ℕ) → length xs ≡ t + (k + t) → n ≡ k + t → t + (k + t) ≤ length b → Outcome F (locator_rows N t n P b) (length xs) r xs → LocatedOrFar F k t b r xs
-    located_found k t xs true n lx en fits (s, h) =
+    pub located_found : (k t : ℕ) (xs : List ℕ) (r : Option (Unit {0})) (n : ℕ) → length xs ≡ t + (k + t) → n ≡ k + t → t + (k + t) ≤ length b → Outcome F (locator_rows N t n P b) (length xs) r xs → LocatedOrFar F k t b r xs
+    located_found k t xs (Some u) n lx en fits (s, h) =
         let a = length-take t xs in
         let d = length-drop t xs in
         let located = (solves_locator_parts_numbers F laws t n P b xs sP sb s long (omega arith)).0 h in (
@@ -104,23 +104,20 @@ module _ (F : Meaning) (laws : IsField F) where
           (λ g ((lg, tg), near).
               locator_agrees F laws g P b (take t xs) (drop t xs) t (all_symbols F g tg) sP sb (All-take (λ x. x < F.q) t xs s) (All-drop (λ x. x < F.q) t xs s) (points_different 0 (length b)) (omega arith) (omega arith) (omega (arith, long)) (near_values t g near) located),
         )
-    located_found k t xs false n lx en fits h = λ g ((lg, tg), near).
+    located_found k t xs None n lx en fits h = λ g ((lg, tg), near).
         let (l, M, sl, sM, ll, lM, located) = locator_exists F laws g P b t (all_symbols F g tg) sP sb long (near_values t g near) in
         let e : length (l ++ M) ≡ length xs = length-append l M ∙ omega arith in
         h (l ++ M, e, All-append (λ x. x < F.q) l M sl sM, (solves_locator_numbers F laws t n P b l M sP sb sl sM long ll (omega arith)).1 located)
 
     -- correcting: l are the lower coefficients of E
     module _ (k t : ℕ) (l : List ℕ) (sl : Symbols F l) (ll : length l ≡ t) (fits : t + (k + t) ≤ length b) (agrees : (g : List ℕ) → Near F k t b g → Agrees N P b l g) where
-      pub corrected_none : (f : List ℕ) → Outcome F (message_rows N k l P b) k false f → Corrected F k t b false b
-      corrected_none f h = (refl, (λ g ((lg, tg), near). message_missing k l f g sl (all_symbols F g tg) lg h (agrees g ((lg, tg), near))))
+      pub nearest_none : (f w : List ℕ) → Outcome F (message_rows N k l P b) k None f → Nearest F k t b None w
+      nearest_none f w h = λ g ((lg, tg), near). message_missing k l f g sl (all_symbols F g tg) lg h (agrees g ((lg, tg), near))
 
-      pub corrected_far : (f : List ℕ) → length f ≡ k → Outcome F (message_rows N k l P b) k true f → (distance (rs_word F (length b) f) b ≤ t → ⊥) → Corrected F k t b false b
-      corrected_far f lf h far = (
-        refl,
-        (λ g ((lg, tg), near).
-            let same : f ≡ g = agreeing_only_numbers F laws f g P b l h.0 (all_symbols F g tg) sP sb sl (points_different 0 (length b)) (lf ∙ sym lg) (omega (arith, long)) (message_agrees k l f sl lf h) (agrees g ((lg, tg), near)) in
-            far (subst (λ z. distance (rs_word F (length b) z) b ≤ t) (sym same) near)),
-      )
+      pub nearest_far : (f w : List ℕ) → length f ≡ k → Outcome F (message_rows N k l P b) k (Some tt) f → (distance (rs_word F (length b) f) b ≤ t → ⊥) → Nearest F k t b None w
+      nearest_far f w lf h far = λ g ((lg, tg), near).
+          let same : f ≡ g = agreeing_only_numbers F laws f g P b l h.0 (all_symbols F g tg) sP sb sl (points_different 0 (length b)) (lf ∙ sym lg) (omega (arith, long)) (message_agrees k l f sl lf h) (agrees g ((lg, tg), near)) in
+          far (subst (λ z. distance (rs_word F (length b) z) b ≤ t) (sym same) near)
 
-      pub corrected_near : (f b' : List ℕ) → length f ≡ k → Symbols F f → distance (rs_word F (length b) f) b ≤ t → b' ≡ rs_word F (length b) f → Corrected F k t b true b'
-      corrected_near f b' lf sf near is = (f, ((lf, symbols_all F f sf), near), is)
+      pub nearest_found : (f w : List ℕ) → length f ≡ k → Symbols F f → distance (rs_word F (length b) f) b ≤ t → w ≡ rs_word F (length b) f → Nearest F k t b (Some tt) w
+      nearest_found f w lf sf near is = (f, ((lf, symbols_all F f sf), near), is)

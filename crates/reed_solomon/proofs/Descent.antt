@@ -1,6 +1,7 @@
 -- One step of the solver: from the system to the smaller one and back. Assumes nothing.
-use Rattle.std.proofs.Common.{◌≡◌, ℕ, zero, suc, ◌+◌, ◌-◌, ◌<◌, Bool, true, false, not, ◌≢◌, ◌↔◌, List, [], ◌∷◌, ◌++◌, map, length, get_or, take, drop, set, sym, ap, ◌∙◌, subst, ap₂, arith}
+use Rattle.std.proofs.Common.{◌≡◌, ℕ, zero, suc, ◌+◌, ◌-◌, ◌<◌, Bool, true, false, Some, None, Option, not, ◌≢◌, ◌↔◌, List, [], ◌∷◌, ◌++◌, map, length, get_or, take, drop, set, sym, ap, ◌∙◌, subst, ap₂, arith}
 use borrow.Rule.Slice.PartMut.{put_mid}
+use Rattle.std.specs.Bool.{then_some}
 use Rattle.std.specs.List.{AllByRecursion}
 use Rattle.std.proofs.lemmas.List.{take_rest, drop-drop, take_at, drop_at}
 use Rattle.std.proofs.ByRecursion.{All-drop, All-get_or}
@@ -60,12 +61,12 @@ module _ (F : Meaning) (laws : IsField F) where
     zeros : AllByRecursion (λ row. get_or row c 0 ≡ 0) (first ∷ rows_from 0 w n others) → AllByRecursion (λ r. lead N r ≡ 0) (drop c first ∷ rows_from c w n others)
     zeros = leads_zero F laws c w n first others
 
-    pub no_unknowns : (xs : List ℕ) (found : Bool) → length xs ≡ 0 → Symbols F xs → ZerosFound found → (found ≡ true → get_or first' c 0 ≡ 0 → ⊥) → Outcome F (drop c first ∷ rows_from c w n others) (length xs) (not found) xs
+    pub no_unknowns : (xs : List ℕ) (found : Bool) → length xs ≡ 0 → Symbols F xs → ZerosFound found → (found ≡ true → get_or first' c 0 ≡ 0 → ⊥) → Outcome F (drop c first ∷ rows_from c w n others) (length xs) (then_some (not found) tt) xs
     no_unknowns xs found none s missing pivot =
         none_left F laws (drop c first ∷ rows_from c w n others) xs found none s (λ r. zeros (missing r)) (λ r h. pivot r (sym (lead_drop N first' c) ∙ ((same (λ r. lead N r ≡ 0)).0 h).0))
 
     -- a column without a pivot
-    pub free_column : (xs ys : List ℕ) (r : Bool) → (length xs ≡ 0 → ⊥) → Symbols F xs → AllByRecursion (λ row. get_or row c 0 ≡ 0) (first ∷ rows_from 0 w n others) → Outcome F (drop (c + 1) first' ∷ rows_from (c + 1) w' n others') (length (take (length xs - 1) (drop 1 xs))) r ys → Outcome F (drop c first ∷ rows_from c w n others) (length xs) r (put_mid 1 (length xs - 1) xs ys)
+    pub free_column : (xs ys : List ℕ) (r : Option (Unit {0})) → (length xs ≡ 0 → ⊥) → Symbols F xs → AllByRecursion (λ row. get_or row c 0 ≡ 0) (first ∷ rows_from 0 w n others) → Outcome F (drop (c + 1) first' ∷ rows_from (c + 1) w' n others') (length (take (length xs - 1) (drop 1 xs))) r ys → Outcome F (drop c first ∷ rows_from c w n others) (length xs) r (put_mid 1 (length xs - 1) xs ys)
     free_column xs ys r some s missing h =
         let S' = drop c first' ∷ rows_from c w' n others' in
         let pos : 0 < length xs = omega arith in
@@ -99,20 +100,20 @@ module _ (F : Meaning) (laws : IsField F) where
       left_good row rest' k some parts long ek =
           subst (AllByRecursion (Symbols F)) (sym (left_is row rest' k some parts long ek)) (left_symbols (drop c first') (rows_from c w' n others') first_symbols others_symbols)
 
-      pub no_solution : (xs ys row rest' : List ℕ) (k : ℕ) → (length xs ≡ 0 → ⊥) → (n ≡ 0 → ⊥) → others'' ≡ row ++ rest' → length row ≡ w' → k ≡ w' → Outcome F (drop (c + 1) row ∷ rows_from (c + 1) k (n - 1) rest') (length (take (length xs - 1) (drop 1 xs))) false ys → SolvableNumbers F (length xs) (drop c first ∷ rows_from c w n others) → ⊥
+      pub no_solution : (xs ys row rest' : List ℕ) (k : ℕ) → (length xs ≡ 0 → ⊥) → (n ≡ 0 → ⊥) → others'' ≡ row ++ rest' → length row ≡ w' → k ≡ w' → Outcome F (drop (c + 1) row ∷ rows_from (c + 1) k (n - 1) rest') (length (take (length xs - 1) (drop 1 xs))) None ys → SolvableNumbers F (length xs) (drop c first ∷ rows_from c w n others) → ⊥
       no_solution xs ys row rest' k pos some parts long ek h =
           let S' = drop c first' ∷ rows_from c w' n others' in
           let more : suc (length (take (length xs - 1) (drop 1 xs))) ≡ length xs = let l = length_rest xs in omega arith in
-          outcome_same F laws (drop c first ∷ rows_from c w n others) S' (length xs) false ys same
-          (subst (λ m. Outcome F S' m false ys) more
+          outcome_same F laws (drop c first ∷ rows_from c w n others) S' (length xs) None ys same
+          (subst (λ m. Outcome F S' m None ys) more
           (pivot_none F laws (drop c first') (rows_from c w' n others') first_symbols others_symbols lead_pivot (length (take (length xs - 1) (drop 1 xs))) ys ys
-          (subst (λ z. Outcome F z (length (take (length xs - 1) (drop 1 xs))) false ys) (left_is row rest' k some parts long ek) h)))
+          (subst (λ z. Outcome F z (length (take (length xs - 1) (drop 1 xs))) None ys) (left_is row rest' k some parts long ek) h)))
 
       -- the unknowns after the first solve what is left
       abbrev pub RestSolved : List ℕ → Type 0
       RestSolved xs = Symbols F (drop 1 xs) × Solves N Left (drop 1 xs)
 
-      pub rest_found : (xs xs' ys row rest' : List ℕ) (k m : ℕ) → (length xs ≡ 0 → ⊥) → (n ≡ 0 → ⊥) → others'' ≡ row ++ rest' → length row ≡ w' → k ≡ w' → xs' ≡ put_mid 1 (length xs - 1) xs ys → Outcome F (drop (c + 1) row ∷ rows_from (c + 1) k (n - 1) rest') m true ys → RestSolved xs'
+      pub rest_found : (xs xs' ys row rest' : List ℕ) (k m : ℕ) → (length xs ≡ 0 → ⊥) → (n ≡ 0 → ⊥) → others'' ≡ row ++ rest' → length row ≡ w' → k ≡ w' → xs' ≡ put_mid 1 (length xs - 1) xs ys → Outcome F (drop (c + 1) row ∷ rows_from (c + 1) k (n - 1) rest') m (Some tt) ys → RestSolved xs'
       rest_found xs xs' ys row rest' k m pos some parts long ek is (s, h) =
           let tail : ys ≡ drop 1 xs' = sym (ap (drop 1) is ∙ drop_part 1 (length xs - 1) xs ys (omega arith) (omega arith)) in
           (subst (Symbols F) tail s, subst (Solves N Left) tail (subst (λ z. Solves N z ys) (left_is row rest' k some parts long ek) h))
@@ -125,7 +126,7 @@ module _ (F : Meaning) (laws : IsField F) where
 
       pub solution : (xs : List ℕ) (m i v : ℕ) → 0 < length xs → RestSolved xs → i ≡ inverse_of F (get_or first' c 0)
           → v ≡ F.product i (F.sum (get_or (take (length first' - (c + 1)) (drop (c + 1) first')) (length (take (length xs - 1) (drop 1 xs))) 0) (opposite_of F (dot N (take (length first' - (c + 1)) (drop (c + 1) first')) (take (length xs - 1) (drop 1 xs)))))
-          → Outcome F (drop c first ∷ rows_from c w n others) m true (set xs 0 v)
+          → Outcome F (drop c first ∷ rows_from c w n others) m (Some tt) (set xs 0 v)
       solution xs m i v pos (s, h) ei ev =
           let S' = drop c first' ∷ rows_from c w' n others' in
           let row : take (length first' - (c + 1)) (drop (c + 1) first') ≡ rest N (drop c first') = take_rest first' (c + 1) ∙ sym (row_rest F laws c first') in
@@ -133,5 +134,5 @@ module _ (F : Meaning) (laws : IsField F) where
           = ev
           ∙ ap₂ (λ a b. F.product a b) (ei ∙ ap (inverse_of F) (sym (lead_drop N first' c)))
           (ap₂ (λ (r : List ℕ) (ys : List ℕ). F.sum (get_or r (length ys) 0) (opposite_of F (dot N r ys))) row (take_rest xs 1)) in
-          outcome_same F laws (drop c first ∷ rows_from c w n others) S' m true _ same
-          (subst (λ z. Outcome F S' m true z) (sym (set_first xs v pos)) (pivot_some F laws (drop c first') (rows_from c w' n others') first_symbols others_symbols lead_pivot m v (drop 1 xs) s h is))
+          outcome_same F laws (drop c first ∷ rows_from c w n others) S' m (Some tt) _ same
+          (subst (λ z. Outcome F S' m (Some tt) z) (sym (set_first xs v pos)) (pivot_some F laws (drop c first') (rows_from c w' n others') first_symbols others_symbols lead_pivot m v (drop 1 xs) s h is))

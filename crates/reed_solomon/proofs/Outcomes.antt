@@ -1,6 +1,7 @@
 -- What the solver answers, from what it answers for a smaller system. Assumes nothing.
-use Rattle.std.proofs.Common.{◌≡◌, ℕ, zero, suc, ◌+◌, ◌-◌, ◌<◌, ◌≤◌, Bool, true, false, not, ◌≢◌, ◌↔◌, List, [], ◌∷◌, ◌++◌, map, length, get_or, take, drop, set, sym, refl, ap, ◌∙◌, subst, ap₂, inl, inr, add-one, arith}
+use Rattle.std.proofs.Common.{◌≡◌, ℕ, zero, suc, ◌+◌, ◌-◌, ◌<◌, ◌≤◌, Bool, true, false, Some, None, Option, not, ◌≢◌, ◌↔◌, List, [], ◌∷◌, ◌++◌, map, length, get_or, take, drop, set, sym, refl, ap, ◌∙◌, subst, ap₂, inl, inr, add-one, arith}
 use borrow.Rule.Slice.PartMut.{put_mid}
+use Rattle.std.specs.Bool.{then_some}
 use Rattle.std.specs.List.{AllByRecursion}
 use Rattle.std.proofs.lemmas.List.{append-nil, drop_all}
 use Rattle.std.proofs.ByRecursion.{All-weaker}
@@ -44,9 +45,9 @@ module _ (F : Meaning) (laws : IsField F) where
   abbrev N : Ops ℕ
   N = numbers F
 
-  pub outcome_same : (old new : List (List ℕ)) (n : ℕ) (r : Bool) (xs : List ℕ) → ((P : List ℕ → Type 0) → AllByRecursion P old ↔ AllByRecursion P new) → Outcome F new n r xs → Outcome F old n r xs
-  outcome_same old new n true xs same (s, h) = (s, (same (λ r. Meets N r xs)).1 h)
-  outcome_same old new n false xs same h = λ s. h (s.0, s.1, s.2, (same (λ r. Meets N r s.0)).0 s.3)
+  pub outcome_same : (old new : List (List ℕ)) (n : ℕ) (r : Option (Unit {0})) (xs : List ℕ) → ((P : List ℕ → Type 0) → AllByRecursion P old ↔ AllByRecursion P new) → Outcome F new n r xs → Outcome F old n r xs
+  outcome_same old new n (Some u) xs same (s, h) = (s, (same (λ r. Meets N r xs)).1 h)
+  outcome_same old new n None xs same h = λ s. h (s.0, s.1, s.2, (same (λ r. Meets N r s.0)).0 s.3)
 
   pub leads_zero : (c w n : ℕ) (first others : List ℕ) → AllByRecursion (λ row. get_or row c 0 ≡ 0) (first ∷ rows_from 0 w n others) → AllByRecursion (λ r. lead N r ≡ 0) (drop c first ∷ rows_from c w n others)
   leads_zero c w n first others (a, b) = (
@@ -62,21 +63,21 @@ module _ (F : Meaning) (laws : IsField F) where
   rows_rest c w (suc n) xs = ap₂ (λ (r : List ℕ) rs. r ∷ rs) (row_rest c (take w xs)) (rows_rest c w n (drop w xs))
 
   -- no unknowns are left
-  pub none_left : (rows : List (List ℕ)) (xs : List ℕ) (found : Bool) → length xs ≡ 0 → Symbols F xs → (found ≡ false → AllByRecursion (λ r. lead N r ≡ 0) rows) → (found ≡ true → AllByRecursion (λ r. lead N r ≡ 0) rows → ⊥) → Outcome F rows (length xs) (not found) xs
+  pub none_left : (rows : List (List ℕ)) (xs : List ℕ) (found : Bool) → length xs ≡ 0 → Symbols F xs → (found ≡ false → AllByRecursion (λ r. lead N r ≡ 0) rows) → (found ≡ true → AllByRecursion (λ r. lead N r ≡ 0) rows → ⊥) → Outcome F rows (length xs) (then_some (not found) tt) xs
   none_left rows [] false e s zeros some = (s, (solves_none N rows).1 (zeros refl))
   none_left rows [] true e s zeros some = λ h. some refl ((solvable_none_numbers F laws rows).0 h)
   none_left rows (x ∷ xs) found e s zeros some = absurd (omega arith)
 
   -- a column of zeros leaves its unknown free
-  pub free_unknown : (rows : List (List ℕ)) (n x : ℕ) (xs : List ℕ) (r : Bool) → AllByRecursion (Symbols F) rows → AllByRecursion (λ r. lead N r ≡ 0) rows → x < F.q → Outcome F (map (rest N) rows) n r xs → Outcome F rows (suc n) r (x ∷ xs)
-  free_unknown rows n x xs true sr zeros hx (s, h) = ((hx, s), (zero_column_numbers F laws rows x xs sr hx s zeros).1 h)
-  free_unknown rows n x xs false sr zeros hx h = λ s. h ((solvable_zero_column_numbers F laws n rows sr zeros).0 s)
+  pub free_unknown : (rows : List (List ℕ)) (n x : ℕ) (xs : List ℕ) (r : Option (Unit {0})) → AllByRecursion (Symbols F) rows → AllByRecursion (λ r. lead N r ≡ 0) rows → x < F.q → Outcome F (map (rest N) rows) n r xs → Outcome F rows (suc n) r (x ∷ xs)
+  free_unknown rows n x xs (Some u) sr zeros hx (s, h) = ((hx, s), (zero_column_numbers F laws rows x xs sr hx s zeros).1 h)
+  free_unknown rows n x xs None sr zeros hx h = λ s. h ((solvable_zero_column_numbers F laws n rows sr zeros).0 s)
 
   module _ (p : List ℕ) (rows : List (List ℕ)) (sp : Symbols F p) (sr : AllByRecursion (Symbols F) rows) (pivot : lead N p ≢ 0) where
-    pub pivot_none : (n : ℕ) (xs ys : List ℕ) → Outcome F (map (rest N) (map (cleared N p) rows)) n false xs → Outcome F (p ∷ rows) (suc n) false ys
+    pub pivot_none : (n : ℕ) (xs ys : List ℕ) → Outcome F (map (rest N) (map (cleared N p) rows)) n None xs → Outcome F (p ∷ rows) (suc n) None ys
     pivot_none n xs ys h = λ s. h ((solvable_pivot_numbers F laws n p rows sp sr pivot).0 s)
 
-    pub pivot_some : (n x : ℕ) (xs : List ℕ) → Symbols F xs → Solves N (map (rest N) (map (cleared N p) rows)) xs → x ≡ head_unknown N p xs → Outcome F (p ∷ rows) n true (x ∷ xs)
+    pub pivot_some : (n x : ℕ) (xs : List ℕ) → Symbols F xs → Solves N (map (rest N) (map (cleared N p) rows)) xs → x ≡ head_unknown N p xs → Outcome F (p ∷ rows) n (Some tt) (x ∷ xs)
     pivot_some n x xs s h e =
         let hx : x < F.q = subst (λ k. k < F.q) (sym e) (head_symbol F laws p xs sp s) in
         ((hx, s), (pivot_numbers F laws p rows x xs sp sr hx s pivot).1 (e, h))

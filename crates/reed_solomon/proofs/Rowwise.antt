@@ -1,14 +1,19 @@
 -- Rows in one list: the first row and the others, and what an exchange of rows keeps. Assumes nothing.
-use Rattle.std.proofs.Common.{◌≡◌, ℕ, zero, suc, ◌+◌, ◌-◌, ◌*◌, ◌<◌, ◌≤◌, List, [], ◌∷◌, ◌++◌, map, length, get_or, take, drop, sym, refl, ap, ◌∙◌, subst, ap₂, inl, inr, suc-mul, mul-le-mul, add-one, arith}
+use Rattle.std.proofs.Common.{false, eqb, T, ◌≡◌, ℕ, zero, suc, ◌+◌, ◌-◌, ◌*◌, ◌<◌, ◌≤◌, List, [], ◌∷◌, ◌++◌, map, length, get_or, take, drop, sym, refl, ap, ◌∙◌, subst, ap₂, inl, inr, suc-mul, mul-le-mul, add-one, arith}
 use borrow.Rule.Slice.PartMut.{put_mid, post_of}
 use Rattle.std.specs.List.{AllByRecursion}
 use Rattle.std.proofs.lemmas.List.{take_at, drop_at, get_or-take, take_all, drop_all, append-nil, length-take-le, length-drop, length-append, take_rest}
 use Rattle.std.proofs.lemmas.Slice.{take-put_mid_below}
 use Rattle.field.specs.Meaning.{Meaning}
 use Rattle.algebra.specs.Correction.{rows_of}
-use Rattle.algebra.specs.Symbols.{numbers, Symbols}
+use Rattle.algebra.specs.Symbols.{numbers}
 use Rattle.reed_solomon.specs.Code.{points_from}
 use Rattle.reed_solomon.specs.Rows.{rows_from, Exchanged}
+
+-- what the test for an empty slice says
+pub not_empty : (n : ℕ) → false ≡ eqb n 0 → n ≡ 0 → ⊥
+not_empty zero t e = absurd (subst T (sym t) tt)
+not_empty (suc n) t e = omega arith
 
 -- what stands after the first element
 pub length_rest : (xs : List ℕ) → length (take (length xs - 1) (drop 1 xs)) ≡ length xs - 1
@@ -119,11 +124,6 @@ pub rows_of_first : (F : Meaning) (row : ℕ → ℕ → List ℕ) (x : ℕ) (ys
 rows_of_first F row x [] tail some e = absurd (some refl)
 rows_of_first F row x (y ∷ ys) tail some e = ap₂ (λ k z. row x y ∷ rows_of (numbers F) row (points_from k (length z)) z) (sym (add-one x)) (sym e)
 
-pub rows_of_symbols : (F : Meaning) (row : ℕ → ℕ → List ℕ) → ((x y : ℕ) → x < F.q → y < F.q → Symbols F (row x y)) → (points ys : List ℕ) → Symbols F points → Symbols F ys → AllByRecursion (Symbols F) (rows_of (numbers F) row points ys)
-rows_of_symbols F row h [] ys sp sy = tt
-rows_of_symbols F row h (x ∷ points) [] sp sy = tt
-rows_of_symbols F row h (x ∷ points) (y ∷ ys) (hx, sp) (hy, sy) = (h x y hx hy, rows_of_symbols F row h points ys sp sy)
-
 -- the rows before and after the first are parts of the whole
 pub split_rows : (w n : ℕ) (rows first others : List ℕ) → (n ≡ 0 → ⊥) → rows ≡ first ++ others → length first ≡ w → rows_from 0 w n rows ≡ first ∷ rows_from 0 (length first) (n - 1) others
 split_rows w n rows first others some parts long =
@@ -150,3 +150,9 @@ module _ (F : Meaning) (row : ℕ → ℕ → List ℕ) (w k x : ℕ) (rows row'
 
   pub filled_rest : length (take k (drop w (row' ++ drop w rows))) ≡ length tail * w
   filled_rest = rest_length (λ r. r) 0 w (length ys) k rows row' rest' some long long' past ∙ ap (λ n. n * w) (sym (length_rest ys))
+
+  pub filled_all : (P : List ℕ → Type 0) → P row' → AllByRecursion P (rows_from 0 w (length tail) rest') → AllByRecursion P (rows_from 0 w (length ys) (put_mid w k (row' ++ drop w rows) rest'))
+  filled_all P here later =
+      let l = length-append row' (drop w rows) in
+      subst (AllByRecursion P) (sym (rows_later 0 w (length ys) k (row' ++ drop w rows) rest' some (omega arith) past))
+      (subst P (sym (take_at row' (drop w rows) w long')) here, subst (λ n. AllByRecursion P (rows_from 0 w n rest')) (length_rest ys) later)

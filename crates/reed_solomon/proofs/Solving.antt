@@ -1,15 +1,14 @@
 -- The steps of the solver: what it computes, by the field's total functions. Assumes nothing.
-use Rattle.std.proofs.Common.{◌≡◌, ℕ, ◌-◌, ◌<◌, ◌≤◌, List, [], ◌∷◌, length, get_or, take, drop, sym, refl, ap, ◌∙◌, subst, ap₂, arith}
+use Rattle.std.proofs.Common.{◌≡◌, ℕ, ◌-◌, ◌<◌, ◌≤◌, List, [], ◌∷◌, length, get_or, take, drop, sym, refl, ap, ◌∙◌, subst, ap₂, arith, zip}
 use borrow.Rule.Slice.PartMut.{put_mid}
 use Rattle.std.proofs.lemmas.List.{length-drop, take_rest, drop_more}
-use Rattle.std.proofs.ByRecursion.{All-get_or, All-drop}
 use Rattle.field.specs.Meaning.{Meaning, IsField, opposite_of, inverse_of}
 use Rattle.field.specs.Words.{plus_scaled, scaled, sum_or_0, product_or_0, opposite_or_0}
 use Rattle.field.proofs.Accepted.{sum_or_0_is, product_or_0_is, opposite_or_0_is}
-use Rattle.field.proofs.Laws.{opposite_small, zero_product}
+use Rattle.field.proofs.Laws.{opposite_small, zero_product, zero_sum}
 use Rattle.field.proofs.Unique.{zero_small, opposite_is}
 use Rattle.field.proofs.Vectors.{length_scaled}
-use Rattle.field.proofs.WordLaws.{drop_back}
+use Rattle.std.specs.List.{fold}
 use Rattle.algebra.specs.Symbols.{numbers, Symbols}
 use Rattle.algebra.specs.Vectors.{plus, times, dot}
 use Rattle.algebra.specs.Systems.{cleared, lead}
@@ -17,10 +16,6 @@ use Rattle.algebra.proofs.Bridge.{inverse_below}
 use Rattle.algebra.proofs.Systems.{lead_drop}
 use Rattle.reed_solomon.specs.Words.{added_is, scaled_is}
 use Rattle.reed_solomon.proofs.Rowwise.{drop_part}
-
-pub dot_nil : (F : Meaning) (a : List ℕ) → dot (numbers F) a [] ≡ 0
-dot_nil F [] = refl
-dot_nil F (x ∷ a) = refl
 
 -- the entry in column c is a symbol if all entries from there on are
 pub drop_symbol : (F : Meaning) (r : List ℕ) (c : ℕ) → c < length r → Symbols F (drop c r) → get_or r c 0 < F.q
@@ -32,15 +27,19 @@ module _ {F : Meaning} (laws : IsField F) where
   dot_symbol (a ∷ vs) [] sa sx = zero_small laws
   dot_symbol (a ∷ vs) (x ∷ xs) (ha, sa) (hx, sx) = laws.sum_closed _ _ (laws.product_closed a x ha hx) (dot_symbol vs xs sa sx)
 
-  -- one product more in front
-  pub dot_back : (a xs : List ℕ) (i v m : ℕ) → 0 < i → i ≤ length xs → length xs ≤ length a → Symbols F a → Symbols F xs → v ≡ dot (numbers F) (drop i a) (drop i xs) → m ≡ product_or_0 F (get_or a (i - 1) 0) (get_or xs (i - 1) 0) → sum_or_0 F m v ≡ dot (numbers F) (drop (i - 1) a) (drop (i - 1) xs)
-  dot_back a xs i v m pos within long sa sx e em =
-      let ha = All-get_or (λ x. x < F.q) a (i - 1) 0 (omega arith) sa in
-      let hx = All-get_or (λ x. x < F.q) xs (i - 1) 0 (omega arith) sx in
-      let is : m ≡ F.product (get_or a (i - 1) 0) (get_or xs (i - 1) 0) = em ∙ product_or_0_is F _ _ ha hx in
-      let small_m : m < F.q = subst (λ n. n < F.q) (sym is) (laws.product_closed _ _ ha hx) in
-      let small : v < F.q = subst (λ n. n < F.q) (sym e) (dot_symbol (drop i a) (drop i xs) (All-drop _ i a sa) (All-drop _ i xs sx)) in
-      sum_or_0_is F m v small_m small ∙ ap₂ F.sum is e ∙ sym (ap₂ (dot (numbers F)) (drop_back a i pos (omega arith)) (drop_back xs i pos within))
+  -- the products are added from the first on
+  pub dot_folded : (a xs : List ℕ) (v : ℕ) → v < F.q → Symbols F a → Symbols F xs → fold (λ s p. sum_or_0 F s (product_or_0 F p.0 p.1)) v (zip a xs) ≡ F.sum v (dot (numbers F) a xs)
+  dot_folded [] xs v hv sa sx = sym (laws.sum_zero v hv)
+  dot_folded (a ∷ vs) [] v hv sa sx = sym (laws.sum_zero v hv)
+  dot_folded (a ∷ vs) (x ∷ xs) v hv (ha, sa) (hx, sx) =
+      let small = laws.product_closed a x ha hx in
+      let next : sum_or_0 F v (product_or_0 F a x) ≡ F.sum v (F.product a x) = ap (sum_or_0 F v) (product_or_0_is F a x ha hx) ∙ sum_or_0_is F v _ hv small in
+      ap (λ n. fold (λ s p. sum_or_0 F s (product_or_0 F p.0 p.1)) n (zip vs xs)) next
+      ∙ dot_folded vs xs _ (laws.sum_closed v _ hv small) sa sx
+      ∙ laws.sum_assoc v _ _ hv small (dot_symbol vs xs sa sx)
+
+  pub dot_is : (a xs : List ℕ) → Symbols F a → Symbols F xs → fold (λ s p. sum_or_0 F s (product_or_0 F p.0 p.1)) 0 (zip a xs) ≡ dot (numbers F) a xs
+  dot_is a xs sa sx = dot_folded a xs 0 (zero_small laws) sa sx ∙ zero_sum laws _ (dot_symbol a xs sa sx)
 
   -- the factor of the pivot row
   pub factor_is : (e i p m f : ℕ) → e < F.q → i ≡ inverse_of F p → m ≡ product_or_0 F e i → f ≡ opposite_or_0 F m → (f ≡ opposite_of F (F.product e (inverse_of F p))) × (f < F.q)

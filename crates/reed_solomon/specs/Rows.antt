@@ -1,5 +1,5 @@
 -- A system of linear equations in one list, row after row. Assumes nothing.
-use Rattle.std.specs.Prelude.{◌≡◌, ℕ, zero, suc, Bool, true, false, ◌⊎◌, List, [], ◌∷◌, ◌++◌, take, drop}
+use Rattle.std.specs.Prelude.{◌≡◌, ℕ, zero, suc, Some, None, Option, ◌⊎◌, List, [], ◌∷◌, ◌++◌, take, drop}
 use Rattle.field.specs.Meaning.{Meaning}
 use Rattle.algebra.specs.Correction.{message_row, rows_of}
 use Rattle.algebra.specs.Polynomials.{value}
@@ -15,10 +15,10 @@ rows_from c w (suc n) xs = drop c (take w xs) ∷ rows_from c w n (drop w xs)
 abbrev pub Exchanged : List (List ℕ) → List (List ℕ) → Type 0
 Exchanged old new = (old ≡ new) ⊎ ((r p : List ℕ) × (u v : List (List ℕ)) × (old ≡ r ∷ (u ++ (p ∷ v))) × (new ≡ p ∷ (u ++ (r ∷ v))))
 
--- what the solver answers: with yes, a solution, which is in xs; with no, that there is none
-abbrev pub Outcome : Meaning → List (List ℕ) → ℕ → Bool → List ℕ → Type 0
-Outcome F rows n true xs = Symbols F xs × Solves (numbers F) rows xs
-Outcome F rows n false xs = SolvableNumbers F n rows → ⊥
+-- what the solver answers: a solution, which is in xs, or that there is none
+abbrev pub Outcome : Meaning → List (List ℕ) → ℕ → Option (Unit {0}) → List ℕ → Type 0
+Outcome F rows n (Some u) xs = Symbols F xs × Solves (numbers F) rows xs
+Outcome F rows n None xs = SolvableNumbers F n rows → ⊥
 
 -- E(x)·f(x) = E(x)·y at every point, for f of k coefficients
 abbrev pub rows_with : Meaning → ℕ → List ℕ → List ℕ → List ℕ → List (List ℕ)

@@ -1,10 +1,47 @@
 // The flaw of a chain, and the sizes of its levels.
-ghost use Rattle.std.specs.Prelude.{◌≡◌, ◌&&◌, length, nat_le};
+ghost use Rattle.std.specs.Prelude.{◌≡◌, ◌&&◌, length, nat_le, MatchResult, None, Some};
 ghost use Rattle.field.specs.Answers.{provided};
 ghost use Rattle.reed_solomon.specs.Code.{falling, flaw, size_of};
 
+use crate::ReedSolomon;
 use field::Field;
 use refusal::Refusal;
+
+impl<F: Field> ReedSolomon<F> {
+    // The least refusal that applies to the chain as it was made.
+    pub(crate) fn find_flaw(&self) -> Option<Refusal>
+        ensures { result ≡ flaw (F.Field.meaning self.now.field) self.now.m self.now.sizes }
+    {
+        let sizes = self.sizes.as_slice();
+        if self.m < 1 || self.m > 32 || self.m > usize::from(self.field.order()) {
+            Some(Refusal::ChainLength)
+        } else if sizes.is_empty() {
+            Some(Refusal::LevelCount)
+        } else if !are_falling(self.m, sizes) {
+            Some(Refusal::LevelShape)
+        } else {
+            None
+        }
+    }
+
+    // The chain, if it has no flaw.
+    pub(crate) fn checked(&self) -> Result<&Self, Refusal>
+        ensures { MatchResult result (λ c. (c.now ≡ self.now) × (flaw (F.Field.meaning self.now.field) self.now.m self.now.sizes ≡ None)) (λ r. flaw (F.Field.meaning self.now.field) self.now.m self.now.sizes ≡ Some r) }
+    {
+        match self.find_flaw() {
+            None => Ok(self),
+            Some(flaw) => Err(flaw),
+        }
+    }
+
+    // The size of a level that is there.
+    pub(crate) fn size_at(&self, level: usize) -> Result<usize, Refusal>
+        ensures { result ≡ provided (nat_le 1 level && nat_le level (length self.now.sizes)) (size_of self.now.sizes level) }
+    {
+        let size = self.sizes.at(level).ok_or(Refusal::BadArgument)?;
+        Ok(usize::from(size))
+    }
+}
 
 // Whether each size is from 1 to the one before it, the first from 1 to m.
 fn are_falling(m: usize, sizes: &[u8]) -> bool
@@ -12,35 +49,11 @@ fn are_falling(m: usize, sizes: &[u8]) -> bool
 {
     let mut most = m;
     for size in sizes {
-        if *size < 1 || *size as usize > most {
+        let size = usize::from(*size);
+        if size < 1 || size > most {
             return false;
         }
-        most = *size as usize;
+        most = size;
     }
     true
-}
-
-pub(crate) fn flaw_of<F: Field>(f: &F, m: usize, sizes: &[u8]) -> Option<Refusal>
-    ensures { result ≡ flaw (F.Field.meaning f.now) m sizes.now }
-{
-    if m < 1 || m > 32 || m > f.order() as usize {
-        return Some(Refusal::ChainLength);
-    }
-    if sizes.len() < 1 || sizes.len() > 4 {
-        return Some(Refusal::LevelCount);
-    }
-    if !are_falling(m, sizes) {
-        return Some(Refusal::LevelShape);
-    }
-    None
-}
-
-// The size of a level.
-pub(crate) fn level_size(sizes: &[u8], level: usize) -> Result<usize, Refusal>
-    ensures { result ≡ provided (nat_le 1 level && nat_le level (length sizes.now)) (size_of sizes.now level) }
-{
-    if level < 1 || level > sizes.len() {
-        return Err(Refusal::BadArgument);
-    }
-    Ok(sizes[level - 1] as usize)
 }

@@ -1,16 +1,20 @@
 // Linear equations over any field, solved in place. A row holds the coefficients and then the right-hand side.
-ghost use Rattle.std.specs.Prelude.{◌≡◌, ◌+◌, ◌*◌, ◌<◌, ◌≤◌, true, false, T, ◌∷◌, map, length, drop, ◌≢◌, slice_index};
-ghost use Rattle.std.specs.List.{AllByRecursion};
+//
+// The rows are passed over by recursion, since a loop over `chunks_exact_mut` leaves open what they hold after it. Their number
+// goes beside them, since only a division of the lengths at each step would tell it.
+ghost use Rattle.std.specs.Prelude.{◌≡◌, ◌+◌, ◌*◌, ◌<◌, ◌≤◌, true, false, ◌∷◌, map, length, drop, ◌≢◌, slice_index, zip};
+ghost use Rattle.std.specs.List.{AllByRecursion, fold};
+ghost use Rattle.field.specs.Words.{sum_or_0, product_or_0};
 ghost use Rattle.field.specs.Meaning.{inverse_of, opposite_of};
-ghost use Rattle.field.specs.Words.{symbols, plus_scaled};
 ghost use Rattle.algebra.specs.Symbols.{numbers, Symbols};
 ghost use Rattle.algebra.specs.Vectors.{dot as dot_of};
 ghost use Rattle.algebra.specs.Systems.{cleared};
 ghost use Rattle.reed_solomon.specs.Rows.{rows_from, Exchanged, Outcome};
 
-use field::{Field, add, invert, multiply, negate};
+use field::{Field, add, add_multiple, invert, multiply, negate};
 
-// Exchanges `first` for the first row whose entry in column c is not 0, itself among them; says whether there is one.
+// Exchanges `first` for the first row whose entry in column c is not 0, itself among them; says whether there is one, which is a
+// question's answer and no value's.
 fn bring(first: &mut [u8], others: &mut [u8], count: usize, c: usize) -> bool
     requires column { c < length first.old }
     requires long { length others.old ≡ count * length first.old }
@@ -32,31 +36,13 @@ fn bring(first: &mut [u8], others: &mut [u8], count: usize, c: usize) -> bool
     bring(first, &mut others[w..], count - 1, c)
 }
 
-// Adds a times the row v to the row `out`.
-fn add_multiple<F: Field>(f: &F, out: &mut [u8], a: u8, v: &[u8])
-    requires factor { a < (F.Field.meaning f.now).q }
-    requires out { T (symbols (F.Field.meaning f.now).q out.old) }
-    requires row { T (symbols (F.Field.meaning f.now).q v.now) }
-    requires long { length out.old ≡ length v.now }
-    ensures { out.new ≡ plus_scaled (F.Field.meaning f.now) a out.old v.now }
-{
-    for i in 0..out.len() {
-        out[i] = add(f, out[i], multiply(f, a, v[i]));
-    }
-}
-
-// The sum of the products of the entries.
+// The sum of the products of the entries, as far as both go.
 fn dot<F: Field>(f: &F, a: &[u8], xs: &[u8]) -> u8
-    requires row { Symbols (F.Field.meaning f.now) a.now }
-    requires unknowns { Symbols (F.Field.meaning f.now) xs.now }
-    requires long { length xs.now ≤ length a.now }
-    ensures { result ≡ dot_of (numbers (F.Field.meaning f.now)) a.now xs.now }
+    ensures { result ≡ fold (λ s p. sum_or_0 (F.Field.meaning f.now) s (product_or_0 (F.Field.meaning f.now) p.0 p.1)) 0 (zip a.now xs.now) }
 {
-    let mut sum = 0;
-    for i in (0..xs.len()).rev() {
-        sum = add(f, multiply(f, a[i], xs[i]), sum);
-    }
-    sum
+    a.iter()
+        .zip(xs)
+        .fold(0, |sum, (a, x)| add(f, sum, multiply(f, *a, *x)))
 }
 
 // Adds the multiple of the pivot row that makes the entry in column c 0.
@@ -117,7 +103,7 @@ pub(crate) fn solve_from<F: Field>(
     count: usize,
     c: usize,
     xs: &mut [u8],
-) -> bool
+) -> Option<()>
     requires width { length first.old ≡ c + length xs.old + 1 }
     requires long { length others.old ≡ count * length first.old }
     requires row { Symbols (F.Field.meaning f.now) (drop c first.old) }
@@ -126,8 +112,8 @@ pub(crate) fn solve_from<F: Field>(
     ensures { Outcome (F.Field.meaning f.now) (drop c first.old ∷ rows_from c (length first.old) count others.old) (length xs.old) result xs.new }
 {
     let found = bring(first, others, count, c);
-    if xs.len() == 0 {
-        return !found;
+    if xs.is_empty() {
+        return (!found).then_some(());
     }
     if !found {
         return solve_from(f, first, others, count, c + 1, &mut xs[1..]);
@@ -136,10 +122,8 @@ pub(crate) fn solve_from<F: Field>(
     clear(f, first, inverse, others, count, c);
     if count > 0 {
         let (row, rest) = others.split_at_mut(first.len());
-        if !solve_from(f, row, rest, count - 1, c + 1, &mut xs[1..]) {
-            return false;
-        }
+        solve_from(f, row, rest, count - 1, c + 1, &mut xs[1..])?;
     }
     xs[0] = pivot_unknown(f, inverse, &first[c + 1..], &xs[1..]);
-    true
+    Some(())
 }

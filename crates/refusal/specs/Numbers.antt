@@ -1,5 +1,5 @@
 -- The number of each refusal. Assumes nothing.
-use Rattle.std.specs.Prelude.{ℕ}
+use Rattle.std.specs.Prelude.{ℕ, Some, None, Option}
 use Rattle.refusal.specs.declared.Refusal.{Refusal}
 use Rattle.refusal.specs.declared.Refusal.TheVariants.{BadArgument, UnsupportedPrime, NoLevelWord, ChainLength, LevelCount, LevelShape, MatrixShape, MatrixEntry, SingularMatrix, ForeignCode, WrongLength, BadSymbol, ShortScratch, FullBook, NoCodeword, NoEntry}
 
@@ -20,3 +20,7 @@ refusal_number ShortScratch = 13
 refusal_number FullBook = 14
 refusal_number (NoCodeword tries) = 15
 refusal_number NoEntry = 16
+
+abbrev pub number_or_0 : Option Refusal → ℕ
+number_or_0 None = 0
+number_or_0 (Some r) = refusal_number r

@@ -2,7 +2,7 @@
 #![tactic(auto)]
 
 ghost use Rattle.std.specs.Prelude.{◌≡◌, Some};
-ghost use Rattle.refusal.specs.Numbers.{refusal_number};
+ghost use Rattle.refusal.specs.Numbers.{refusal_number, number_or_0};
 ghost use Rattle.refusal.specs.Printed.{printed_refusal};
 
 use std::fmt;
@@ -66,6 +66,13 @@ impl Refusal {
             Refusal::NoCodeword(_) => 15,
             Refusal::NoEntry => 16,
         }
+    }
+
+    // The number of a flaw or of a call's refusal, 0 where there is none.
+    pub fn number_or_0(refusal: Option<Refusal>) -> u8
+        ensures { result ≡ number_or_0 refusal }
+    {
+        refusal.map_or(0, |r| r.number())
     }
 }
 

@@ -1,29 +1,21 @@
--- One turn of the reading of a number. Assumes nothing.
-use Rattle.std.proofs.Common.{◌≡◌, ℕ, ◌+◌, ◌-◌, ◌*◌, ◌^◌, ◌<◌, ◌≤◌, Bool, true, false, cond, ◌&&◌, ltb, List, [], ◌∷◌, Some, None, Option, sym, ap, arith}
+-- A value that is too large stays so. Assumes nothing.
+use Rattle.std.proofs.Common.{◌≡◌, ℕ, ◌+◌, ◌-◌, ◌*◌, ◌^◌, ◌<◌, ◌≤◌, ◌&&◌, ltb, List, [], ◌∷◌, length, get_or, drop, Some, None, ◌∙◌, arith}
+use Rattle.std.proofs.lemmas.Bool.{le-ltb, and_right, cond-false}
+use Rattle.std.proofs.lemmas.List.{at_drop_more}
 use Rattle.std.specs.Char.{is_ascii_digit}
-use Rattle.std.proofs.lemmas.Bool.{le-ltb, lt-ltb, and_right, cond-false, cond-true}
-use Rattle.script.specs.Numbers.{digits, value_from, number_from}
+use Rattle.std.specs.List.{list_all}
+use Rattle.script.specs.Numbers.{value_from, number_from}
 
-given_if : Bool → Bool → ℕ → Option ℕ
-given_if d t v = cond (d && t) (Some v) None
-
-pub digit_more : (v b : ℕ) (bs : List ℕ) → is_ascii_digit b ≡ true → number_from v (b ∷ bs) ≡ number_from (v * 10 + (b - 48)) bs
-unfolding given_if
-digit_more v b bs e = let w = value_from v (b ∷ bs) in ap (λ t. given_if (t && digits bs) (ltb w (2 ^ 32)) w) e
-
-pub no_digit : (v b : ℕ) (bs : List ℕ) → is_ascii_digit b ≡ false → None ≡ number_from v (b ∷ bs)
-unfolding given_if
-no_digit v b bs e = let w = value_from v (b ∷ bs) in sym (ap (λ t. given_if (t && digits bs) (ltb w (2 ^ 32)) w) e)
-
+-- a digit more makes a value no smaller
 grows : (v : ℕ) (bs : List ℕ) → v ≤ value_from v bs
 grows v [] = omega arith
 grows v (b ∷ bs) = omega (arith, grows (v * 10 + (b - 48)) bs)
 
-pub too_large : (v : ℕ) (bs : List ℕ) → 2 ^ 32 ≤ v → None ≡ number_from v bs
-too_large v bs h =
-    let w = value_from v bs in
-    let large = le-ltb w (2 ^ 32) (omega (arith, grows v bs)) in
-    sym (cond-false (digits bs && ltb w (2 ^ 32)) (Some w) None (and_right (digits bs) (ltb w (2 ^ 32)) large))
-
-pub whole : (v : ℕ) → v < 2 ^ 32 → Some v ≡ number_from v []
-whole v h = sym (cond-true (ltb v (2 ^ 32)) (Some v) None (lt-ltb v (2 ^ 32) h))
+pub too_large : (v : ℕ) (bs : List ℕ) (i : ℕ) → i < length bs → 2 ^ 32 ≤ v * 10 + (get_or bs i 0 - 48) → number_from v (drop i bs) ≡ None
+too_large v bs i inside large =
+    let b = get_or bs i 0 in
+    let rest = drop (i + 1) bs in
+    let w = value_from v (b ∷ rest) in
+    let beyond = le-ltb w (2 ^ 32) (omega (arith, grows (v * 10 + (b - 48)) rest)) in
+    at_drop_more (number_from v) bs i 0 inside
+    ∙ cond-false (list_all is_ascii_digit (b ∷ rest) && ltb w (2 ^ 32)) (Some w) None (and_right (list_all is_ascii_digit (b ∷ rest)) (ltb w (2 ^ 32)) beyond)

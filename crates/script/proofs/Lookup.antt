@@ -1,20 +1,26 @@
--- One turn of the search for a name. Assumes nothing.
-use Rattle.std.proofs.Common.{◌≡◌, ℕ, ◌+◌, ◌<◌, ◌≤◌, true, false, cond, List, length, get_or, drop, Some, None, sym, ap, ◌∙◌, Bor}
+-- The first of a table's entries that is spelled so. Assumes nothing.
+use Rattle.std.proofs.Common.{◌≡◌, ℕ, true, false, cond, List, [], ◌∷◌, map, Some, None, Option, find, refl, ap, ◌∙◌, Bor}
+use Rattle.std.specs.Option.{option_map}
 use Rattle.std.specs.Str.{bytes_eq}
-use Rattle.std.proofs.lemmas.List.{at_drop_more, at_drop_all}
 use Rattle.script.specs.declared.commands.Name.{Name}
-use Rattle.script.specs.Commands.{entries, named}
+use Rattle.script.specs.Commands.{names, spelled}
 
-module _ (table : List (Bor (List ℕ) × Name)) (word : List ℕ) (i : ℕ) where
-  pub here : (d : Bor (List ℕ) × Name) → i < length table → true ≡ bytes_eq (get_or table i d).0.now word → Some (get_or table i d).1 ≡ named (entries (drop i table)) word
-  here d h e =
-      ap (λ t. cond t (Some (get_or table i d).1) (named (entries (drop (i + 1) table)) word)) e
-      ∙ sym (at_drop_more (λ es. named (entries es) word) table i d h)
+abbrev pub entry : Bor (List ℕ) × Name → List ℕ × Name
+entry e = (e.0.now, e.1)
 
-  pub further : (d : Bor (List ℕ) × Name) → i < length table → false ≡ bytes_eq (get_or table i d).0.now word → named (entries (drop (i + 1) table)) word ≡ named (entries (drop i table)) word
-  further d h e =
-      ap (λ t. cond t (Some (get_or table i d).1) (named (entries (drop (i + 1) table)) word)) e
-      ∙ sym (at_drop_more (λ es. named (entries es) word) table i d h)
+find_entry : (word : List ℕ) (table : List (Bor (List ℕ) × Name)) → option_map (λ e. e.1) (find (λ e. bytes_eq e.0.now word) table) ≡ option_map (λ e. e.1) (find (λ e. bytes_eq e.0 word) (map entry table))
+find_entry word [] = refl
+find_entry word (e ∷ table) =
+    elim (bytes_eq e.0.now word) as (λ t. option_map (λ e. e.1) (cond t (Some e) (find (λ e. bytes_eq e.0.now word) table)) ≡ option_map (λ e. e.1) (cond t (Some (entry e)) (find (λ e. bytes_eq e.0 word) (map entry table)))) [
+      | true ↦ refl
+      | false ↦ find_entry word table
+    ]
 
-  pub nowhere : length table ≤ i → None ≡ named (entries (drop i table)) word
-  nowhere h = sym (at_drop_all (λ es. named (entries es) word) table i h)
+name_at : (r : Option (Bor (Bor (List ℕ) × Name))) → option_map (λ y. y.now.1) r ≡ option_map (λ e. e.1) (option_map (λ y. y.now) r)
+name_at None = refl
+name_at (Some y) = refl
+
+pub spelled-find : (word : List ℕ) (table : List (Bor (List ℕ) × Name)) (r : Option (Bor (Bor (List ℕ) × Name))) → map entry table ≡ names → option_map (λ y. y.now) r ≡ find (λ e. bytes_eq e.0.now word) table → option_map (λ y. y.now.1) r ≡ spelled word
+unfolding spelled
+spelled-find word table r is found =
+    name_at r ∙ ap (option_map (λ e. e.1)) found ∙ find_entry word table ∙ ap (λ t. option_map (λ e. e.1) (find (λ e. bytes_eq e.0 word) t)) is

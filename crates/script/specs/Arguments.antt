@@ -1,18 +1,13 @@
 -- The arguments of a command, and when a part of a line is read. Assumes nothing.
-use Rattle.std.specs.Prelude.{◌≡◌, ℕ, cond, List, [], ◌∷◌, Some, None, Ok, Err, vec_items, Option, Result, Vec, nat_le}
-use Rattle.std.specs.declared.alloc.Global.{Global}
-use Rattle.script.specs.Numbers.{with_first}
+use Rattle.std.specs.Prelude.{◌≡◌, ℕ, cond, List, [], ◌∷◌, Some, None, Ok, Err, Option, Result, nat_le}
+use Rattle.std.specs.Option.{option_zip}
+use Rattle.script.specs.Numbers.{each}
 use Rattle.script.specs.declared.arguments.Unread.{Unread}
 use Rattle.script.specs.declared.arguments.Unread.TheVariants.{NotUnderstood, Memory}
 
 -- a symbol is a number up to 255
 abbrev pub symbol : ℕ → Option ℕ
 symbol n = cond (nat_le n 255) (Some n) None
-
-abbrev both : Option ℕ → Option ℕ → Option (ℕ × ℕ)
-both None b = None
-both (Some a) None = None
-both (Some a) (Some b) = Some (a, b)
 
 -- the arguments of a command that takes none, one symbol, or two
 abbrev pub none : List ℕ → Option (Unit {0})
@@ -27,7 +22,7 @@ one (a ∷ b ∷ ns) = None
 abbrev pub two : List ℕ → Option (ℕ × ℕ)
 two [] = None
 two (a ∷ []) = None
-two (a ∷ b ∷ []) = both (symbol a) (symbol b)
+two (a ∷ b ∷ []) = option_zip (symbol a) (symbol b)
 two (a ∷ b ∷ c ∷ ns) = None
 
 -- where memory suffices, what is read is what is asked for
@@ -44,18 +39,9 @@ whole (a ∷ b ∷ ns) = None
 
 -- any number of symbols
 abbrev pub symbols : List ℕ → Option (List ℕ)
-symbols [] = Some []
-symbols (n ∷ ns) = with_first (symbol n) (symbols ns)
-
-abbrev pub beside : Option ℕ → Option (List ℕ) → Option (ℕ × List ℕ)
-beside None ns = None
-beside (Some n) None = None
-beside (Some n) (Some ns) = Some (n, ns)
+symbols = each symbol
 
 -- a symbol, and those after it
 abbrev pub first_and_rest : List ℕ → Option (ℕ × List ℕ)
 first_and_rest [] = None
-first_and_rest (n ∷ ns) = beside (symbol n) (symbols ns)
-
-abbrev pub both_view : ℕ × Vec ℕ Global → ℕ × List ℕ
-both_view p = (p.0, vec_items p.1)
+first_and_rest (n ∷ ns) = option_zip (symbol n) (symbols ns)

@@ -1,19 +1,12 @@
 -- The commands of a script. Assumes nothing.
-use Rattle.std.specs.Prelude.{ℕ, cond, List, [], ◌∷◌, map, Some, None, vec_items, codes, Option}
-use Rattle.std.specs.Borrow.{Bor}
+use Rattle.std.specs.Prelude.{ℕ, List, [], ◌∷◌, find, Some, None, vec_items, codes, Option}
 use Rattle.std.specs.Option.{option_map}
 use Rattle.std.specs.Str.{bytes_eq}
 use Rattle.script.specs.declared.commands.Command.{Command}
 use Rattle.script.specs.declared.commands.Name.{Name}
 use Rattle.script.specs.Arguments.{first_and_rest, none, one, symbols, two, whole}
 
--- a name with its spelling
-abbrev pub entry : Bor (List ℕ) × Name → List ℕ × Name
-entry e = (e.0.now, e.1)
-
-abbrev pub entries : List (Bor (List ℕ) × Name) → List (List ℕ × Name)
-entries = map entry
-
+-- the names, with their spellings
 abbrev pub names : List (List ℕ × Name)
 names =
     (codes "field", Name.Field)
@@ -32,14 +25,9 @@ names =
     ∷ (codes "scratch", Name.Scratch)
     ∷ []
 
--- the first name of the table that is spelled so
-abbrev pub named : List (List ℕ × Name) → List ℕ → Option Name
-named [] word = None
-named (e ∷ es) word = cond (bytes_eq e.0 word) (Some e.1) (named es word)
-
 -- the name that is spelled so
 unfoldable pub spelled : List ℕ → Option Name
-spelled word = named names word
+spelled word = option_map (λ e. e.1) (find (λ e. bytes_eq e.0 word) names)
 
 -- what a command asks for
 pub data Asked : Type 0 where

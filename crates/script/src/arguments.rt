@@ -1,16 +1,16 @@
 // The arguments of a command: numbers at first, then as many symbols as it takes.
-ghost use Rattle.std.specs.Prelude.{◌≡◌, vec_items};
+ghost use Rattle.std.specs.Prelude.{◌≡◌, vec_items, IfErr, IfOk, Option};
 ghost use Rattle.std.specs.Option.{ok_or};
 ghost use Rattle.script.specs.declared.arguments.Unread.TheVariants.{NotUnderstood, Memory};
 ghost use Rattle.script.specs.Words.{texts};
-ghost use Rattle.script.specs.Numbers.{numbers};
-ghost use Rattle.script.specs.Arguments.{Reads, both_view, first_and_rest, none, one, symbol, symbols, two, whole};
+ghost use Rattle.script.specs.Numbers.{each, numbers};
+ghost use Rattle.script.specs.Arguments.{Reads, first_and_rest, none, one, symbol, symbols, two, whole};
 
 use crate::numbers::number_of;
 use std::alloc::{AllocFailed, Global};
 
 // Why no command was read.
-#[derive(Drop)]
+#[derive(Clone, Copy, PartialEq, Eq, Debug)]
 pub enum Unread {
     NotUnderstood,
     Memory,
@@ -24,28 +24,39 @@ impl<T: Drop> From<AllocFailed<T>> for Unread {
     }
 }
 
-// Each word as a number.
+// What each item reads as, if each is understood.
+fn each_of<T, U: Drop, F: Fn(&T) -> Result<U, Unread>>(
+    heap: Global,
+    items: &[T],
+    read: F,
+) -> Result<Vec<U>, Unread>
+    ghost reading: { T → Option U }
+    requires callable { F.IsAlwaysCallable read }
+    requires reads { (x : _) (r : _) → F.post read x r → r ≡ ok_or (reading x.now) NotUnderstood }
+    ensures { Reads vec_items result (each reading items.now) }
+{
+    // A chain into `try_collect` was tried: the check leaves open where it fails.
+    let mut found = Vec::new(heap);
+    for item in items {
+        found.push(read(item)?)?;
+    }
+    Ok(found)
+}
+
 pub(crate) fn numbers_of(heap: Global, words: &[&[u8]]) -> Result<Vec<u32>, Unread>
     ensures { Reads vec_items result (numbers (texts words.now)) }
 {
-    let mut found = Vec::new(heap);
-    for word in words {
-        let Some(number) = number_of(word) else {
-            return Err(Unread::NotUnderstood);
-        };
-        found.push(number)?;
-    }
-    Ok(found)
+    each_of(
+        heap,
+        words,
+        |word| number_of(word).ok_or(Unread::NotUnderstood),
+    )
 }
 
 fn symbol_of(number: u32) -> Result<u8, Unread>
     ensures { result ≡ ok_or (symbol number) NotUnderstood }
 {
-    if number <= 255 {
-        Ok(number as u8)
-    } else {
-        Err(Unread::NotUnderstood)
-    }
+    u8::try_from(number).map_err(|_| Unread::NotUnderstood)
 }
 
 pub(crate) fn none_of(numbers: &[u32]) -> Result<(), Unread>
@@ -60,10 +71,7 @@ pub(crate) fn none_of(numbers: &[u32]) -> Result<(), Unread>
 pub(crate) fn one_of(numbers: &[u32]) -> Result<u8, Unread>
     ensures { result ≡ ok_or (one numbers.now) NotUnderstood }
 {
-    match numbers {
-        [a] => symbol_of(*a),
-        _ => Err(Unread::NotUnderstood),
-    }
+    symbol_of(whole_of(numbers)?)
 }
 
 pub(crate) fn two_of(numbers: &[u32]) -> Result<(u8, u8), Unread>
@@ -87,20 +95,20 @@ pub(crate) fn whole_of(numbers: &[u32]) -> Result<u32, Unread>
 pub(crate) fn symbols_of(heap: Global, numbers: &[u32]) -> Result<Vec<u8>, Unread>
     ensures { Reads vec_items result (symbols numbers.now) }
 {
-    let mut found = Vec::new(heap);
-    for number in numbers {
-        found.push(symbol_of(*number)?)?;
-    }
-    Ok(found)
+    each_of(heap, numbers, |number| symbol_of(*number))
 }
 
-pub(crate) fn first_and_rest_of(heap: Global, numbers: &[u32]) -> Result<(u8, Vec<u8>), Unread>
-    ensures { Reads both_view result (first_and_rest numbers.now) }
+// What is made of a symbol and those after it.
+pub(crate) fn with_rest<C, F: FnOnce(u8, Vec<u8>) -> C>(
+    heap: Global,
+    numbers: &[u32],
+    make: F,
+) -> Result<C, Unread>
+    requires { F.IsAlwaysCallable make }
+    ensures ok { IfOk result
+        (λ c. (a : _) × (v : _) × (Some (a, vec_items v) ≡ first_and_rest numbers.now) × F.post make a v c) }
+    ensures err { IfErr result (λ e. e ≡ NotUnderstood → None ≡ first_and_rest numbers.now) }
 {
-    let [first, rest @ ..] = numbers else {
-        return Err(Unread::NotUnderstood);
-    };
-    let first = symbol_of(*first)?;
-    let rest = symbols_of(heap, rest)?;
-    Ok((first, rest))
+    let (first, rest) = numbers.split_first().ok_or(Unread::NotUnderstood)?;
+    Ok(make(symbol_of(*first)?, symbols_of(heap, rest)?))
 }

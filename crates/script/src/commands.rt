@@ -1,18 +1,16 @@
 // The commands, by their names and numbers.
 ghost use Rattle.std.specs.Prelude.{◌≡◌};
-ghost use Rattle.std.specs.Option.{ok_or};
-ghost use Rattle.script.specs.declared.arguments.Unread.TheVariants.{NotUnderstood};
 ghost use Rattle.script.specs.Words.{texts};
 ghost use Rattle.script.specs.Numbers.{numbers};
 ghost use Rattle.script.specs.Arguments.{Reads};
-ghost use Rattle.script.specs.Commands.{asked, called, entries, named, spelled, view};
+ghost use Rattle.script.specs.Commands.{asked, called, spelled, view};
 
 use crate::arguments::{
-    Unread, first_and_rest_of, none_of, numbers_of, one_of, symbols_of, two_of, whole_of,
+    Unread, none_of, numbers_of, one_of, symbols_of, two_of, whole_of, with_rest,
 };
 use std::alloc::Global;
 
-#[derive(Drop)]
+#[derive(PartialEq, Eq, Debug, Drop)]
 pub enum Command {
     Field(u8),
     Sum(u8, u8),
@@ -30,7 +28,7 @@ pub enum Command {
     Scratch(u32),
 }
 
-#[derive(Clone, Copy)]
+#[derive(Clone, Copy, PartialEq, Eq, Debug)]
 enum Name {
     Field,
     Sum,
@@ -48,6 +46,7 @@ enum Name {
     Scratch,
 }
 
+// A `match` on the spellings was tried: it goes byte by byte, and leaves a hundred goals.
 const NAMES: [(&[u8], Name); 14] = [
     (b"field", Name::Field),
     (b"sum", Name::Sum),
@@ -65,75 +64,40 @@ const NAMES: [(&[u8], Name); 14] = [
     (b"scratch", Name::Scratch),
 ];
 
-fn found_in(table: &[(&[u8], Name)], word: &[u8]) -> Result<Name, Unread>
-    ensures { result ≡ ok_or (named (entries table.now) word.now) NotUnderstood }
+fn name_of(word: &[u8]) -> Option<Name>
+    ensures { result ≡ spelled word.now }
 {
-    for (spelling, name) in table {
-        if *spelling == word {
-            return Ok(*name);
-        }
-    }
-    Err(Unread::NotUnderstood)
-}
-
-fn name_of(word: &[u8]) -> Result<Name, Unread>
-    ensures { result ≡ ok_or (spelled word.now) NotUnderstood }
-{
-    found_in(&NAMES, word)
+    NAMES
+        .iter()
+        .find(|(spelling, _)| *spelling == word)
+        .map(|(_, name)| *name)
 }
 
 fn command_of(heap: Global, name: Name, numbers: &[u32]) -> Result<Command, Unread>
     ensures { Reads view result (asked name numbers.now) }
 {
     match name {
-        Name::Field => Ok(Command::Field(one_of(numbers)?)),
-        Name::Sum => {
-            let (a, b) = two_of(numbers)?;
-            Ok(Command::Sum(a, b))
-        }
-        Name::Product => {
-            let (a, b) = two_of(numbers)?;
-            Ok(Command::Product(a, b))
-        }
-        Name::Opposite => Ok(Command::Opposite(one_of(numbers)?)),
-        Name::Inverse => Ok(Command::Inverse(one_of(numbers)?)),
-        Name::Sheet => {
-            none_of(numbers)?;
-            Ok(Command::Sheet)
-        }
-        Name::ReedSolomon => {
-            let (first, rest) = first_and_rest_of(heap, numbers)?;
-            Ok(Command::ReedSolomon(first, rest))
-        }
-        Name::Plain => {
-            let (first, rest) = first_and_rest_of(heap, numbers)?;
-            Ok(Command::Plain(first, rest))
-        }
-        Name::EncodeLevel => {
-            let (first, rest) = first_and_rest_of(heap, numbers)?;
-            Ok(Command::EncodeLevel(first, rest))
-        }
-        Name::CorrectLevel => {
-            let (first, rest) = first_and_rest_of(heap, numbers)?;
-            Ok(Command::CorrectLevel(first, rest))
-        }
-        Name::StripLevel => {
-            let (first, rest) = first_and_rest_of(heap, numbers)?;
-            Ok(Command::StripLevel(first, rest))
-        }
-        Name::Code => {
-            let (first, rest) = first_and_rest_of(heap, numbers)?;
-            Ok(Command::Code(first, rest))
-        }
-        Name::Encode => Ok(Command::Encode(symbols_of(heap, numbers)?)),
-        Name::Scratch => Ok(Command::Scratch(whole_of(numbers)?)),
+        Name::Field => one_of(numbers).map(Command::Field),
+        Name::Sum => two_of(numbers).map(|(a, b)| Command::Sum(a, b)),
+        Name::Product => two_of(numbers).map(|(a, b)| Command::Product(a, b)),
+        Name::Opposite => one_of(numbers).map(Command::Opposite),
+        Name::Inverse => one_of(numbers).map(Command::Inverse),
+        Name::Sheet => none_of(numbers).map(|()| Command::Sheet),
+        Name::ReedSolomon => with_rest(heap, numbers, Command::ReedSolomon),
+        Name::Plain => with_rest(heap, numbers, Command::Plain),
+        Name::EncodeLevel => with_rest(heap, numbers, Command::EncodeLevel),
+        Name::CorrectLevel => with_rest(heap, numbers, Command::CorrectLevel),
+        Name::StripLevel => with_rest(heap, numbers, Command::StripLevel),
+        Name::Code => with_rest(heap, numbers, Command::Code),
+        Name::Encode => symbols_of(heap, numbers).map(Command::Encode),
+        Name::Scratch => whole_of(numbers).map(Command::Scratch),
     }
 }
 
 pub(crate) fn command_in(heap: Global, first: &[u8], others: &[&[u8]]) -> Result<Command, Unread>
     ensures { Reads view result (called (spelled first.now) (numbers (texts others.now))) }
 {
-    let name = name_of(first)?;
+    let name = name_of(first).ok_or(Unread::NotUnderstood)?;
     let arguments = numbers_of(heap, others)?;
-    command_of(heap, name, arguments.as_slice())
+    command_of(heap, name, &arguments)
 }

@@ -8,7 +8,7 @@ use crate::commands::{Command, command_in};
 use crate::words::words_of;
 use std::alloc::{AllocError, Global};
 
-#[derive(Drop)]
+#[derive(PartialEq, Eq, Debug, Drop)]
 pub enum Line {
     // Nothing but white space, or a comment.
     PassedOver,
@@ -33,10 +33,8 @@ fn line_of(heap: Global, words: &[&[u8]]) -> Result<Line, AllocError>
     }
     match command_in(heap, first, others) {
         Ok(command) => Ok(Line::Understood(command)),
-        Err(unread) => match unread {
-            Unread::NotUnderstood => Ok(Line::NotUnderstood),
-            Unread::Memory => Err(AllocError),
-        },
+        Err(Unread::NotUnderstood) => Ok(Line::NotUnderstood),
+        Err(Unread::Memory) => Err(AllocError),
     }
 }
 
@@ -45,5 +43,5 @@ pub fn parse(heap: Global, line: &[u8]) -> Result<Line, AllocError>
     ensures { IfOk result (λ l. heard l ≡ parsed line.now) }
 {
     let words = words_of(heap, line)?;
-    line_of(heap, words.as_slice())
+    line_of(heap, &words)
 }

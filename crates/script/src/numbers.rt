@@ -2,24 +2,20 @@
 ghost use Rattle.std.specs.Prelude.{◌≡◌};
 ghost use Rattle.script.specs.Numbers.{number};
 
-const LIMIT: u64 = 1 << 32;
-
+#[tactic(auto, using(crate::proofs::Digits::too_large))]
 pub fn number_of(word: &[u8]) -> Option<u32>
     ensures { result ≡ number word.now }
 {
     if word.is_empty() {
         return None;
     }
-    let mut value: u64 = 0;
+    let mut value: u32 = 0;
     for b in word {
         if !b.is_ascii_digit() {
             return None;
         }
-        value = value * 10 + u64::from(*b - b'0');
         // A digit more makes a value no smaller.
-        if value >= LIMIT {
-            return None;
-        }
+        value = value.checked_mul(10)?.checked_add(u32::from(*b - b'0'))?;
     }
-    Some(value as u32)
+    Some(value)
 }

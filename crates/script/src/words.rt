@@ -8,33 +8,25 @@ use std::alloc::{AllocError, Global};
 fn is_white(b: u8) -> bool
     ensures { result ≡ white b }
 {
-    b == b' ' || b == b'\t' || b == b'\r'
+    matches!(b, b' ' | b'\t' | b'\r')
 }
 
 // The parts of the line between its white space.
 pub fn words_of<'a>(heap: Global, line: &'a [u8]) -> Result<Vec<&'a [u8]>, AllocError>
     ensures { IfOk result (λ v. texts v.items ≡ words line.now) }
 {
-    let mut found = Vec::new(heap);
-    let mut start = 0;
-    for (i, b) in line.iter().enumerate() {
-        if is_white(*b) {
-            if start < i {
-                found.push(&line[start..i])?;
-            }
-            start = i + 1;
-        }
-    }
-    if start < line.len() {
-        found.push(&line[start..])?;
-    }
-    Ok(found)
+    line.split(|b| is_white(*b))
+        .filter(|word| !word.is_empty())
+        .collect(heap)
 }
 
-fn shown_as(b: u8) -> u8
+fn shown_as(b: u8) -> char
     ensures { result ≡ shown b }
 {
-    if b >= 32 && b <= 126 { b } else { b'?' }
+    match b {
+        b' '..=b'~' => char::from(b),
+        _ => '?',
+    }
 }
 
 // Adds a space and the word.
@@ -43,7 +35,7 @@ fn push_word(echo: &mut String, word: &[u8]) -> Result<(), AllocError>
 {
     echo.push(' ')?;
     for b in word {
-        echo.push(char::from(shown_as(*b)))?;
+        echo.push(shown_as(*b))?;
     }
     Ok(())
 }
@@ -54,7 +46,7 @@ pub fn echo_of(heap: Global, line: &[u8]) -> Result<String, AllocError>
 {
     let words = words_of(heap, line)?;
     let mut echo = String::from_str(heap, ">")?;
-    for word in words.iter() {
+    for word in &words {
         push_word(&mut echo, word)?;
     }
     Ok(echo)

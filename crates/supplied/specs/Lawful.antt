@@ -1,5 +1,5 @@
 -- The chain of triples keeps the laws, by computed tests. Assumes nothing.
-use Rattle.std.specs.Prelude.{◌≡◌, ℕ, ◌+◌, ◌-◌, ◌*◌, ◌<◌, ◌≤◌, Bool, true, false, ◌||◌, T, List, [], ◌∷◌, length, take, drop, ◌==◌, ◌≢◌, nat_eq, nat_le, slice_index, slice_set, refl}
+use Rattle.std.specs.Prelude.{◌≡◌, ℕ, ◌<◌, ◌≤◌, Bool, true, false, ◌||◌, T, List, [], ◌∷◌, length, ◌==◌, ◌≢◌, nat_eq, nat_le, slice_index, slice_index_or, slice_set, refl}
 use Rattle.std.proofs.Common.{sym, ap, ap₂, subst, ◌∙◌, arith, eqb→eq, leb→le, lit≤, lt→ltb}
 use Rattle.std.proofs.Math.Decide.{ℕ_discrete}
 use Rattle.field.specs.Places.{distance}
@@ -9,6 +9,7 @@ use Rattle.field.proofs.Metric.{eqb_tells, distance_zero, distance_itself}
 use Rattle.field.proofs.Tests.{each_at, each²_at}
 use Rattle.field.proofs.WordLaws.{symbol_at}
 use Rattle.chain.specs.Meaning.{IsChain, Level, Word}
+use Rattle.supplied.specs.declared.triples.TheConstants.{WORDS}
 use Rattle.supplied.specs.Quadratic.{four, product}
 use Rattle.supplied.specs.Triples.{word, triples}
 use Rattle.supplied.specs.Table.{is_field}
@@ -78,12 +79,9 @@ is_chain = record {
         ]
 
 -- the rule of the table of words
-abbrev pub table : List ℕ
-table = 0 ∷ 0 ∷ 0 ∷ 1 ∷ 2 ∷ 3 ∷ 2 ∷ 3 ∷ 1 ∷ 3 ∷ 1 ∷ 2 ∷ []
-
-pub table_rule : (x : ℕ) → x < 4 → take (3 * x + 3 - 3 * x) (drop (3 * x) table) ≡ word x
+pub word_rule : (x : ℕ) → x < 4 → slice_index_or WORDS x [] ≡ word x
 unfolding word product
-table_rule x h = same _ _ (each_at (λ x. nat_eq (distance (take (3 * x + 3 - 3 * x) (drop (3 * x) table)) (word x)) 0) 4 tt x h)
+word_rule x h = same _ _ (each_at (λ x. nat_eq (distance (slice_index_or WORDS x []) (word x)) 0) 4 tt x h)
 
 pub first_level : (i : ℕ) → i ≡ 1 → Level triples i
 first_level i e = record { from = omega arith; to = omega arith }

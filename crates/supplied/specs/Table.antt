@@ -1,13 +1,11 @@
 -- The laws of GF(4) and the rule of its table, by computed tests. Assumes nothing.
-use Rattle.std.specs.Prelude.{◌≡◌, ℕ, ◌+◌, ◌*◌, ◌<◌, List, [], ◌∷◌, nat_eq, slice_index}
+use Rattle.std.specs.Prelude.{◌≡◌, ℕ, ◌<◌, [], nat_eq, slice_index, slice_index_or}
 use Rattle.std.proofs.Common.{eqb→eq}
-use Rattle.field.specs.Meaning.{IsField, inverse_of, opposite_of}
+use Rattle.field.specs.Meaning.{IsField, inverse_of}
 use Rattle.field.proofs.Tests.{each_at, each²_at}
 use Rattle.field.proofs.Finite.{field_by_tests}
+use Rattle.supplied.specs.declared.TheConstants.{PRODUCTS}
 use Rattle.supplied.specs.Quadratic.{product, four}
-
-abbrev pub products : List ℕ
-products = 0 ∷ 0 ∷ 0 ∷ 0 ∷ 0 ∷ 1 ∷ 2 ∷ 3 ∷ 0 ∷ 2 ∷ 3 ∷ 1 ∷ 0 ∷ 3 ∷ 1 ∷ 2 ∷ []
 
 pub is_field : IsField four
 unfolding product
@@ -28,13 +26,10 @@ is_field =
       has_inverse = tt;
     })
 
-pub product_rule : (a b : ℕ) → a < 4 → b < 4 → slice_index products (4 * a + b) ≡ product a b
+pub product_rule : (a b : ℕ) → a < 4 → b < 4 → slice_index (slice_index_or PRODUCTS a []) b ≡ product a b
 unfolding product
-product_rule a b ha hb = eqb→eq _ _ (each²_at (λ a b. nat_eq (slice_index products (4 * a + b)) (product a b)) 4 tt a b ha hb)
+product_rule a b ha hb = eqb→eq _ _ (each²_at (λ a b. nat_eq (slice_index (slice_index_or PRODUCTS a []) b) (product a b)) 4 tt a b ha hb)
 
-pub inverse_rule : (a : ℕ) → a < 4 → slice_index products (5 * a) ≡ inverse_of four a
+pub inverse_rule : (a : ℕ) → a < 4 → slice_index (slice_index_or PRODUCTS a []) a ≡ inverse_of four a
 unfolding product
-inverse_rule a h = eqb→eq _ _ (each_at (λ a. nat_eq (slice_index products (5 * a)) (inverse_of four a)) 4 tt a h)
-
-pub opposite_rule : (a : ℕ) → a < 4 → a ≡ opposite_of four a
-opposite_rule a h = eqb→eq _ _ (each_at (λ a. nat_eq a (opposite_of four a)) 4 tt a h)
+inverse_rule a h = eqb→eq _ _ (each_at (λ a. nat_eq (slice_index (slice_index_or PRODUCTS a []) a) (inverse_of four a)) 4 tt a h)

@@ -1,4 +1,4 @@
-// A field and a chain written as an outside supplier would: they rest on the crates of the traits alone. GF(4), with its whole product as a table.
+// A field and a chain written as an outside supplier would: they rest on the crates of the traits alone, and share no code with GF(16). GF(4), with its whole product as a table.
 #![tactic(auto)]
 
 ghost use Rattle.std.specs.Prelude.{◌≡◌};
@@ -12,8 +12,8 @@ mod triples;
 
 pub use triples::Triples;
 
-// At 4a + b: the product of a and b.
-const PRODUCTS: [u8; 16] = [0, 0, 0, 0, 0, 1, 2, 3, 0, 2, 3, 1, 0, 3, 1, 2];
+// At a and b: the product of a and b.
+const PRODUCTS: [[u8; 4]; 4] = [[0, 0, 0, 0], [0, 1, 2, 3], [0, 2, 3, 1], [0, 3, 1, 2]];
 
 #[derive(Clone, Copy, PartialEq, Eq, Debug)]
 pub struct Gf4;
@@ -41,18 +41,20 @@ impl Field for Gf4 {
         Ok(a)
     }
 
+    #[tactic(auto, using(crate::specs::Table::product_rule, std::proofs::lemmas::Bool::Decides::nat_tests))]
     fn product(&self, a: u8, b: u8) -> Result<u8, Refusal> {
         if a >= 4 || b >= 4 {
             return Err(Refusal::BadArgument);
         }
-        Ok(PRODUCTS[4 * a as usize + b as usize])
+        Ok(PRODUCTS[usize::from(a)][usize::from(b)])
     }
 
+    #[tactic(auto, using(crate::specs::Table::inverse_rule))]
     // The square: the cube of every symbol but 0 is 1.
     fn inverse(&self, a: u8) -> Result<u8, Refusal> {
         if a == 0 || a >= 4 {
             return Err(Refusal::BadArgument);
         }
-        Ok(PRODUCTS[5 * a as usize])
+        Ok(PRODUCTS[usize::from(a)][usize::from(a)])
     }
 }

@@ -1,5 +1,6 @@
 // A chain written as an outside supplier would: one level, whose four words are a fixed table.
 ghost use Rattle.std.specs.Prelude.{◌≡◌, ℕ, ◌<◌, ◌≤◌, length, MatchOption};
+ghost use Rattle.chain.specs.Answers.{told_of_level, is_level};
 ghost use Rattle.field.specs.Places.{distance as differing};
 ghost use Rattle.supplied.specs.Triples.{triples, word};
 ghost use Rattle.supplied.specs.Lawful.{is_chain};
@@ -9,10 +10,10 @@ use chain::Chain;
 use field::{Field, are_symbols, distance};
 use refusal::Refusal;
 
-// The word of x stands from 3x on: x times 1 2 3.
-const WORDS: [u8; 12] = [0, 0, 0, 1, 2, 3, 2, 3, 1, 3, 1, 2];
+// At x: the word of x, x times 1 2 3.
+const WORDS: [[u8; 3]; 4] = [[0, 0, 0], [1, 2, 3], [2, 3, 1], [3, 1, 2]];
 
-#[derive(Clone, Copy)]
+#[derive(Clone, Copy, PartialEq, Eq, Debug)]
 pub struct Triples {
     pub field: Gf4,
 }
@@ -21,22 +22,23 @@ pub struct Triples {
 fn nearest(block: &[u8], most: usize) -> Option<u8>
     ensures { MatchOption result ((x : ℕ) → x < 4 → differing (word x) block.now ≤ most → ⊥) (λ x. (x < 4) × (differing (word x) block.now ≤ most)) }
 {
-    for x in 0..4u8 {
-        let at = 3 * x as usize;
-        if distance(&WORDS[at..at + 3], block) <= most {
-            return Some(x);
-        }
-    }
-    None
+    (0..4).find(|x| distance(&WORDS[usize::from(*x)], block) <= most)
 }
 
+#[tactic(auto, using(crate::specs::Lawful::word_rule))]
 fn write(x: u8, out: &mut [u8])
     requires symbol { x < 4 }
     requires long { length out.old ≡ 3 }
     ensures { out.new ≡ word x }
 {
-    let at = 3 * x as usize;
-    out.copy_from_slice(&WORDS[at..at + 3]);
+    out.copy_from_slice(&WORDS[usize::from(x)]);
+}
+
+// A number that belongs to the one level.
+fn at_level(level: usize, number: usize) -> Result<usize, Refusal>
+    ensures { result ≡ told_of_level None (is_level triples level) number }
+{
+    (level == 1).then_some(number).ok_or(Refusal::BadArgument)
 }
 
 impl Chain for Triples {
@@ -63,19 +65,11 @@ impl Chain for Triples {
     }
 
     fn size(&self, level: usize) -> Result<usize, Refusal> {
-        if level == 1 {
-            Ok(1)
-        } else {
-            Err(Refusal::BadArgument)
-        }
+        at_level(level, 1)
     }
 
     fn distance(&self, level: usize) -> Result<usize, Refusal> {
-        if level == 1 {
-            Ok(3)
-        } else {
-            Err(Refusal::BadArgument)
-        }
+        at_level(level, 3)
     }
 
     fn encode(&self, level: usize, message: &[u8], out: &mut [u8]) -> Result<(), Refusal> {
@@ -97,9 +91,7 @@ impl Chain for Triples {
         if scratch.len() < 4096 {
             return Err(Refusal::ShortScratch);
         }
-        let Some(x) = nearest(block, 1) else {
-            return Err(Refusal::NoLevelWord);
-        };
+        let x = nearest(block, 1).ok_or(Refusal::NoLevelWord)?;
         write(x, block);
         Ok(())
     }
@@ -108,9 +100,7 @@ impl Chain for Triples {
         if level != 1 || block.len() != 3 || !are_symbols(&self.field, block) || out.len() != 1 {
             return Err(Refusal::BadArgument);
         }
-        let Some(x) = nearest(block, 0) else {
-            return Err(Refusal::NoLevelWord);
-        };
+        let x = nearest(block, 0).ok_or(Refusal::NoLevelWord)?;
         out[0] = x;
         Ok(())
     }

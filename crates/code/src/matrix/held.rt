@@ -1,5 +1,6 @@
 // Making and reading a matrix.
-ghost use Rattle.std.specs.Prelude.{◌≡◌, ℕ, ◌*◌, ◌<◌, ◌≤◌, T, length, take};
+ghost use Rattle.std.specs.Prelude.{◌≡◌, ℕ, ◌*◌, ◌<◌, ◌≤◌, T, [], length, slice_index_or, take};
+ghost use Rattle.std.specs.List.{list_all};
 ghost use Rattle.code.specs.Held.{held};
 ghost use Rattle.code.specs.Meaning.{matrix_of, entry_at};
 ghost use Rattle.field.specs.Words.{symbols, plus_scaled};
@@ -22,8 +23,10 @@ impl Matrix {
                 width: 0,
             };
         }
+        // By index, since a width of 0 cuts no chunks.
         for i in 0..height {
-            let row = padded(&entries[i * width..i * width + width]);
+            let mut row = [0; 8];
+            row[..width].copy_from_slice(&entries[i * width..][..width]);
             rows[i] = row;
         }
         Matrix {
@@ -33,16 +36,25 @@ impl Matrix {
         }
     }
 
+    // A row, counted from 0; an empty one where there is none.
+    pub(crate) fn row(&self, i: usize) -> &[u8]
+        ensures { result.now ≡ slice_index_or (held self.now) i [] }
+    {
+        if i < self.height {
+            &self.rows[i][..self.width]
+        } else {
+            &[]
+        }
+    }
+
     // The entry in a row and a column, counted from 1; 0 where there is none.
     pub fn entry(&self, row: usize, column: usize) -> u8
         ensures { result ≡ entry_at (held self.now) row column }
     {
-        let i = row.saturating_sub(1);
-        let j = column.saturating_sub(1);
-        if i >= self.height || j >= self.width {
-            return 0;
-        }
-        self.rows[i][j]
+        self.row(row.saturating_sub(1))
+            .get(column.saturating_sub(1))
+            .copied()
+            .unwrap_or(0)
     }
 
     pub(crate) fn height(&self) -> usize
@@ -61,13 +73,7 @@ impl Matrix {
     pub(crate) fn is_of<F: Field>(&self, f: &F) -> bool
         ensures { result ≡ every (symbols (F.Field.meaning f.now).q) (held self.now) }
     {
-        for i in 0..self.height {
-            let row = self.rows[i];
-            if !are_symbols(f, &row[0..self.width]) {
-                return false;
-            }
-        }
-        true
+        are_words(f, self.width, &self.rows[..self.height])
     }
 
     // Adds to each block of `out` the word times the entry of the row in that block's column.
@@ -79,6 +85,7 @@ impl Matrix {
         ensures { out.new ≡ joined_to (λ j. plus_scaled (F.Field.meaning f.now) (entry_at (held self.now) row j) (piece (length word.now) out.old j) word.now) self.now.width }
     {
         let m = word.len();
+        // By index, since `chunks_exact_mut` leaves open what `out` holds.
         for j in 0..self.width {
             let entry = self.entry(row, j + 1);
             let _ = add_scaled(f, &mut out[j * m..j * m + m], entry, word);
@@ -86,15 +93,10 @@ impl Matrix {
     }
 }
 
-// The entries of a row, followed by zeros.
-fn padded(entries: &[u8]) -> [u8; 8]
-    requires { length entries.now ≤ 8 }
-    ensures row { take (length entries.now) result ≡ entries.now }
-    ensures long { length result ≡ 8 }
+// Whether the first entries of each row are symbols of the field.
+fn are_words<F: Field>(f: &F, width: usize, rows: &[[u8; 8]]) -> bool
+    requires { width ≤ 8 }
+    ensures { result ≡ list_all (λ row. symbols (F.Field.meaning f.now).q (take width row)) rows.now }
 {
-    let mut row = [0; 8];
-    for j in 0..entries.len() {
-        row[j] = entries[j];
-    }
-    row
+    rows.iter().all(|row| are_symbols(f, &row[..width]))
 }

@@ -1,8 +1,7 @@
 -- What is left to show of `add_level`.
-use Rattle.std.proofs.Common.{ℕ, ◌*◌, ◌<◌, T, List, length, sym, ◌∙◌, subst, ap₂, mul_comm}
+use Rattle.std.proofs.Common.{ℕ, ◌*◌, List, length, sym, ◌∙◌, ap₂, mul_comm}
 use Rattle.field.specs.Meaning as fields
-use Rattle.field.specs.Words.{symbols, plus_scaled}
-use Rattle.chain.specs.Meaning.{Word}
+use Rattle.field.specs.Words.{plus_scaled}
 use Rattle.code.specs.Held.{held, holding}
 use Rattle.code.specs.Meaning.{entry_at}
 use Rattle.code.specs.Numbers.{joined_to, piece}
@@ -17,12 +16,11 @@ add_row-requires g c =
     let M = holding C self.l self.matrix in
     let s = sound M c.requires.sound in
     let chain = g.met.C.Chain.lawful self.chain s.none in
-    let same = sym c.field.ensures in
-    let word = subst (Word C.field C.m) (sym c.write_word.ensures) (chain.encodes c.args.level c.requires.level c.args.part.now c.requires.part) in
+    let word = rw (← c.write_word.ensures) at (chain.encodes c.args.level c.requires.level c.args.part.now c.requires.part) in
     record {
-      entries = λ j. subst (λ G. entry_at (held self.matrix) c.args.level j < G.q) same (entry_small chain.over_field (held self.matrix) s.words c.args.level j);
-      word = subst (λ G. T (symbols G.q c.write_word.new.out)) same word.all;
-      before = subst (λ G. T (symbols G.q c.args.out.now)) same c.requires.before.all;
+      entries = rw c.field.ensures (λ j. entry_small chain.over_field (held self.matrix) s.words c.args.level j);
+      word = rw c.field.ensures word.all;
+      before = rw c.field.ensures c.requires.before.all;
       long = c.requires.before.long ∙ mul_comm C.m self.l ∙ ap₂ ◌*◌ (sym (width_is C self.l self.matrix chain.s_least s.shaped)) (sym word.long);
     }
 

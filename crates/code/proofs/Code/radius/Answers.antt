@@ -1,13 +1,11 @@
 -- What is left to show of `radius`.
-use Rattle.std.proofs.Common.{rules}
-use Rattle.code.specs.Held.{holding}
+use Rattle.code.specs.Held.{meant}
 use Rattle.code.proofs.Apart.{separates}
 use Rattle.code.proofs.Respect.{respected}
 use Rattle.code.proofs.Code.radius.Goals as goal
 
-pub returns : goal.returns
-returns g c =
-    let self = c.args.self.now in
-    let M = holding (g.C.Chain.meaning self.chain) self.l self.matrix in
-    let lawful = g.met.C.Chain.lawful self.chain in
-    record { value = search rules; separates = separates M lawful; respected = respected M lawful }
+pub returns-clause-separates : goal.returns-clause-separates
+returns-clause-separates g c = separates (meant g.C.Chain.meaning c.args.self.now) (g.met.C.Chain.lawful c.args.self.now.chain)
+
+pub returns-clause-respected : goal.returns-clause-respected
+returns-clause-respected g c = respected (meant g.C.Chain.meaning c.args.self.now) (g.met.C.Chain.lawful c.args.self.now.chain)

@@ -1,90 +1,59 @@
 -- What is left to show of `write_codeword`.
-use Rattle.std.proofs.Common.{◌+◌, ◌<◌, ◌≤◌, length, replicate, sym, refl, ap, ◌∙◌, subst, arith}
-use Rattle.chain.specs.Meaning.{Word}
-use Rattle.code.specs.Held.{holding}
-use Rattle.code.specs.Numbers.{n_of}
-use Rattle.code.proofs.Levels.{blocks_none, blocks_more, blocks_word, part_cut, message_short, level_there, part_within}
+use Rattle.std.proofs.Common.{◌≡◌, ◌+◌, ◌-◌, replicate, sym, refl, ap, ◌∙◌, subst, arith}
+use Rattle.chain.specs.Answers.{told}
+use Rattle.chain.specs.Meaning.{Message}
+use Rattle.code.specs.Held.{meant}
+use Rattle.code.proofs.Levels.{blocks_none, step}
 use Rattle.code.proofs.Sound.{sound}
-use Rattle.code.proofs.Sums.{sum_more}
 use Rattle.code.proofs.Code.write_codeword.Goals as goal
 
-pub loop-i-init : goal.loop-i-init
-loop-i-init g c =
+pub loop-level-init : goal.loop-level-init
+loop-level-init g c =
     let self = c.args.self.now in
-    let C = g.C.Chain.meaning self.chain in
-    let M = holding C self.l self.matrix in
+    let M = meant g.C.Chain.meaning self in
     let s = sound M c.requires.sound in
     let zeros = c.fill.ensures.after (λ y e. e) ∙ ap (λ n. replicate n 0) c.requires.long in
-    (blocks_none M s (g.met.C.Chain.lawful self.chain s.none) c.args.message.now c.requires.word c.fill.new.self zeros, refl)
+    record { added = blocks_none M s (g.met.C.Chain.lawful self.chain s.none) c.args.message.now c.requires.word c.fill.new.self zeros; left = refl }
 
-pub overflow_add-start : goal.overflow_add-start
-overflow_add-start g c =
+pub split_at-requires : goal.split_at-requires
+split_at-requires g c =
     let self = c.args.self.now in
-    let M = holding (g.C.Chain.meaning self.chain) self.l self.matrix in
+    let M = meant g.C.Chain.meaning self in
     let s = sound M c.requires.sound in
-    let chain = g.met.C.Chain.lawful self.chain s.none in
-    let xs = c.args.message.now in
-    let word = c.requires.word in
-    let i = c.loop-i.i in
-    let below : i < M.chain.s = level_there M s chain xs word i c.levels-i-end.result c.loop-i-test.true c.levels-i-end.ensures in
-    let within : c.loop-i.start + c.size_of-size.result ≤ length xs = part_within M s chain xs word i c.loop-i.start c.size_of-size.result below c.loop-i.invariant.1 c.size_of-size.ensures in
-    let short : length xs ≤ 128 = message_short M s chain xs word in
-    omega arith
+    let at = step M s (g.met.C.Chain.lawful self.chain s.none) c.args.message.now c.requires.word _ _ _ _ _ c.loop-level.auto.level c.loop-level-test.true c.levels-level-end.ensures c.size_of.ensures c.loop-level.invariant.added c.loop-level.invariant.left in
+    at.fits
 
-pub slice_bounds-add_level-end : goal.slice_bounds-add_level-end
-slice_bounds-add_level-end g c =
+pub add_level-requires-clause-part : goal.add_level-requires-clause-part
+add_level-requires-clause-part g c =
     let self = c.args.self.now in
-    let M = holding (g.C.Chain.meaning self.chain) self.l self.matrix in
+    let M = meant g.C.Chain.meaning self in
     let s = sound M c.requires.sound in
-    let chain = g.met.C.Chain.lawful self.chain s.none in
-    let xs = c.args.message.now in
-    let word = c.requires.word in
-    let i = c.loop-i.i in
-    let below : i < M.chain.s = level_there M s chain xs word i c.levels-i-end.result c.loop-i-test.true c.levels-i-end.ensures in
-    let within : c.loop-i.start + c.size_of-size.result ≤ length xs = part_within M s chain xs word i c.loop-i.start c.size_of-size.result below c.loop-i.invariant.1 c.size_of-size.ensures in
-    within
+    let at = step M s (g.met.C.Chain.lawful self.chain s.none) c.args.message.now c.requires.word _ _ _ _ _ c.loop-level.auto.level c.loop-level-test.true c.levels-level-end.ensures c.size_of.ensures c.loop-level.invariant.added c.loop-level.invariant.left in
+    subst (Message M.chain c.loop-level.level) (sym c.split_at.ensures.front) at.message
 
-pub add_level-requires : goal.add_level-requires
-add_level-requires g c =
+pub add_level-requires-clause-before : goal.add_level-requires-clause-before
+add_level-requires-clause-before g c =
     let self = c.args.self.now in
-    let M = holding (g.C.Chain.meaning self.chain) self.l self.matrix in
+    let M = meant g.C.Chain.meaning self in
     let s = sound M c.requires.sound in
-    let chain = g.met.C.Chain.lawful self.chain s.none in
-    let xs = c.args.message.now in
-    let word = c.requires.word in
-    let i = c.loop-i.i in
-    let below : i < M.chain.s = level_there M s chain xs word i c.levels-i-end.result c.loop-i-test.true c.levels-i-end.ensures in
-    record {
-      sound = c.requires.sound;
-      level = record { from = omega arith; to = omega arith };
-      part = part_cut M s chain xs word i c.loop-i.start c.size_of-size.result below c.loop-i.invariant.1 c.size_of-size.ensures;
-      before = subst (Word M.chain.field (n_of M)) (sym c.loop-i.invariant.0) (blocks_word M s chain xs word i (omega arith));
-    }
+    let at = step M s (g.met.C.Chain.lawful self.chain s.none) c.args.message.now c.requires.word _ _ _ _ _ c.loop-level.auto.level c.loop-level-test.true c.levels-level-end.ensures c.size_of.ensures c.loop-level.invariant.added c.loop-level.invariant.left in
+    at.before
 
-pub overflow_add-start-in-loop-i : goal.overflow_add-start-in-loop-i
-overflow_add-start-in-loop-i g c =
+pub loop-level-preserved : goal.loop-level-preserved
+loop-level-preserved g c =
     let self = c.args.self.now in
-    let M = holding (g.C.Chain.meaning self.chain) self.l self.matrix in
+    let M = meant g.C.Chain.meaning self in
     let s = sound M c.requires.sound in
-    let chain = g.met.C.Chain.lawful self.chain s.none in
-    let xs = c.args.message.now in
-    let word = c.requires.word in
-    let i = c.loop-i.i in
-    let below : i < M.chain.s = level_there M s chain xs word i c.levels-i-end.result c.loop-i-test.true c.levels-i-end.ensures in
-    let within : c.loop-i.start + c.size_of-size.result ≤ length xs = part_within M s chain xs word i c.loop-i.start c.size_of-size.result below c.loop-i.invariant.1 c.size_of-size.ensures in
-    let short : length xs ≤ 128 = message_short M s chain xs word in
-    omega arith
+    let at = step M s (g.met.C.Chain.lawful self.chain s.none) c.args.message.now c.requires.word _ _ _ _ _ c.loop-level.auto.level c.loop-level-test.true c.levels-level-end.ensures c.size_of.ensures c.loop-level.invariant.added c.loop-level.invariant.left in
+    let next : c.loop-level.level + 1 - 1 ≡ c.loop-level.level = omega arith in
+    record { added = at.added _ _ (rw c.split_at.ensures.front at c.add_level.ensures) next; left = c.split_at.ensures.back ∙ at.left _ next }
 
-pub loop-i-preserved : goal.loop-i-preserved
-loop-i-preserved g c =
+pub returns-2 : goal.returns-2
+returns-2 g c =
     let self = c.args.self.now in
-    let M = holding (g.C.Chain.meaning self.chain) self.l self.matrix in
+    let M = meant g.C.Chain.meaning self in
     let s = sound M c.requires.sound in
-    let chain = g.met.C.Chain.lawful self.chain s.none in
-    let xs = c.args.message.now in
-    let word = c.requires.word in
-    let i = c.loop-i.i in
-    let below : i < M.chain.s = level_there M s chain xs word i c.levels-i-end.result c.loop-i-test.true c.levels-i-end.ensures in (
-      blocks_more M s chain xs word i c.loop-i.start c.loop-i.out c.add_level.new.out c.size_of-size.result below c.loop-i.invariant.1 c.size_of-size.ensures c.loop-i.invariant.0 c.add_level.ensures,
-      sum_more M.chain.size i c.loop-i.start c.size_of-size.result c.loop-i.invariant.1 c.size_of-size.ensures,
-    )
+    let at = step M s (g.met.C.Chain.lawful self.chain s.none) c.args.message.now c.requires.word _ _ _ _ _ c.loop-level.auto.level c.loop-level-test.true c.levels-level-end.ensures c.size_of.ensures c.loop-level.invariant.added c.loop-level.invariant.left in
+    let s_is = c.levels-level-end.ensures ∙ ap (λ f. told f M.chain.s) s.none in
+    let last : M.chain.s ≡ c.loop-level.level = omega arith in
+    at.added _ _ (rw c.split_at.ensures.front at c.add_level.ensures) last

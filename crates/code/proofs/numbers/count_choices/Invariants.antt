@@ -4,4 +4,4 @@ use Rattle.code.specs.Numbers.{falling}
 use Rattle.code.proofs.numbers.count_choices.Given as goal
 
 abbrev pub invariant-loop-i : goal.invariant-loop-i
-invariant-loop-i l = l.product ≡ falling l.l l.i
+invariant-loop-i g l = l.product ≡ falling l.l l.i

@@ -1,20 +1,16 @@
-use Rattle.std.proofs.Common.{◌≡◌, T, drop, sym, ap, ◌∙◌, subst, arith}
-use Rattle.field.specs.Words.{total}
+use Rattle.std.proofs.Common.{rules, ◌≡◌, T, reverse, refl, ◌∙◌, subst}
+use Rattle.std.specs.List.{fold}
+use Rattle.std.proofs.iter.runs.Made.{chains}
+use Rattle.field.specs.Words.{sum_or_0}
 use Rattle.field.proofs.Accepted.{passed}
-use Rattle.field.proofs.WordLaws.{total_back}
-use Rattle.std.proofs.lemmas.List.{at_drop_all}
+use Rattle.field.proofs.Folds.{fold_back}
+use Rattle.field.proofs.WordLaws.{total_or_0, total_or_0_is}
 use Rattle.field.proofs.words.total.Goals as goal
-
-pub loop-i-init : goal.loop-i-init
-loop-i-init g c = sym (at_drop_all (total (g.F.Field.meaning c.args.f.now)) c.args.xs.now _ (omega arith))
-
-pub loop-i-preserved : goal.loop-i-preserved
-loop-i-preserved g c =
-    c.add-sum.ensures
-    ∙ total_back (g.met.F.Field.lawful c.args.f.now) c.args.xs.now (subst T c.if-not-are_symbols.ensures tt) c.loop-i.i c.loop-i-test.true c.loop-i.auto.i _ c.loop-i.invariant
 
 pub returns : goal.returns
 returns g c =
     let F = g.F.Field.meaning c.args.f.now in
-    let done : c.loop-i.i ≡ 0 = omega arith in
-    passed _ _ _ (subst T c.if-not-are_symbols.ensures tt) (c.loop-i.invariant ∙ ap (λ k. total F (drop k c.args.xs.now)) done)
+    let xs = c.args.xs.now in
+    let all = subst T c.if-not-are_symbols.ensures tt in
+    let folded : c.fold.result ≡ fold (λ s x. sum_or_0 F x s) 0 (reverse xs) = search (rules, chains) in
+    passed _ _ _ all (folded ∙ fold_back (total_or_0 F) (sum_or_0 F) 0 refl (λ _ _. refl) xs ∙ total_or_0_is (g.met.F.Field.lawful c.args.f.now) xs all)

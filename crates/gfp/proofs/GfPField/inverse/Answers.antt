@@ -1,20 +1,30 @@
-use Rattle.std.proofs.Common.{arith}
+use Rattle.std.proofs.Common.{◌≡◌, ℕ, ◌*◌, ◌%◌, Some, None, Option, ◌==◌, eqb, ◌∙◌, sym, subst, arith, eqb→eq, Bool, T}
+use lib.Dec.{eqb_refl}
+use Rattle.std.specs.Option.{ok_or}
+use Rattle.refusal.specs.declared.Refusal.TheVariants.{BadArgument}
+use Rattle.field.specs.Answers.{inverted}
 use Rattle.field.proofs.Accepted.{accepted_but_0}
+use Rattle.field.proofs.Tests.{true_is, T_is}
 use Rattle.field.proofs.Unique.{inverse_is}
+use Rattle.gfp.specs.Modulo.{modulo}
 use Rattle.gfp.specs.Remainders.{is_field}
+use Rattle.gfp.proofs.Finding.{Finds, found_below}
 use Rattle.gfp.proofs.GfPField.inverse.Goals as goal
 
-pub returns-then-a-b-eq1 : goal.returns-then-a-b-eq1
-returns-then-a-b-eq1 c =
-    let f = c.args.self.now in
-    let a = c.args.a in
-    let small = c.if-a-self.false in
-    let not0 = c.if-a-eq0.false in
-    accepted_but_0 a f.p _ _ small not0
-    (inverse_is (is_field f.p f.prime) a c.loop-b.b small not0 c.loop-b-test.true c.if-a-b-eq1.true)
+pub returns : goal.returns
+returns c = c.ok_or.ensures.value ∙ answered c.inverse_of.result (subst (Finds test 0 p) (sym c.inverse_of.ensures) (found_below test p))
+  where
+    p : ℕ
+    p = c.args.self.now.p
 
-pub unreachable-requires : goal.unreachable-requires
-unreachable-requires c =
-    let f = c.args.self.now in
-    let inverse = (is_field f.p f.prime).has_inverse c.args.a c.if-a-self.false c.if-a-eq0.false in
-    c.loop-b.invariant inverse.0 (omega (arith, inverse.1, c.loop-b-test.false)) inverse.2
+    a : ℕ
+    a = c.args.a
+
+    test : ℕ → Bool
+    test b = a * b % p == 1
+
+    answered : (o : Option ℕ) → Finds test 0 p o → ok_or o BadArgument ≡ inverted (modulo p) a
+    answered (Some b) h = accepted_but_0 a p _ _ c.if-a-self.false c.if-a-eq0.false (inverse_is (is_field p c.args.self.now.prime) a b c.if-a-self.false c.if-a-eq0.false h.1 (eqb→eq _ _ (T_is _ h.2)))
+    answered None h =
+        let inverse = (is_field p c.args.self.now.prime).has_inverse a c.if-a-self.false c.if-a-eq0.false in
+        absurd (h inverse.0 (omega arith) inverse.1 (true_is _ (subst (λ n. T (eqb n 1)) (sym inverse.2) (eqb_refl 1))))

@@ -1,17 +1,17 @@
-use Rattle.std.proofs.Common.{length, string_bytes, sym, ◌∙◌}
-use Rattle.code.specs.Answers.{encode_cause}
-use Rattle.code.specs.Held.{holding}
+use Rattle.std.proofs.Common.{length, refl, rules, ◌∙◌}
+use Rattle.std.proofs.lemmas.Result.{IfOk-weaker}
+use Rattle.code.specs.Answers.{Encodes, encode_cause}
+use Rattle.code.specs.Held.{meant}
 use Rattle.code.specs.Numbers.{codeword}
-use Rattle.printing.proofs.Telling.{written_back, told_by, text_is, codeword_is}
+use Rattle.printing.proofs.Telling.{told_by, codeword_is}
 use Rattle.printing.proofs.calls.encode.Goals as goal
 
 pub returns : goal.returns
 returns g c =
-    let code = c.args.code.now in
-    let M = holding (g.C.Chain.meaning code.chain) code.l code.matrix in
+    let M = meant g.C.Chain.meaning c.args.code.now in
     let xs = c.args.message.now in
-    let out = c.as_mut_slice.result.now in
-    text_is c.told.result string_bytes
-    (told_by (encode_cause M xs (length out)) (codeword M xs) out (c.as_slice.ensures.value ∙ written_back c.encode-result.new.out _ _ (sym (c.encode-result.auto.out ∙ c.as_mut_slice.ensures.len))) c.encode-result.ensures.result c.encode-result.ensures.after
-    ∙ codeword_is M xs (length out) (c.as_mut_slice.ensures.len ∙ c.in_ok-out.ensures.len ∙ c.word_length.ensures))
-    c.told.ensures
+    IfOk-weaker c.written.result _ _ (λ s w.
+    let kept : Encodes M xs w.0.now w.1 w.2.now = search rules in
+    w.5 ∙ told_by (encode_cause M xs (length w.0.now)) (codeword M xs) w.0.now refl kept.result kept.after
+    ∙ codeword_is M xs (length w.0.now) (w.3 ∙ c.word_length.ensures))
+    c.written.ensures

@@ -1,6 +1,8 @@
-use Rattle.std.proofs.Common.{length, string_bytes, sym, ◌∙◌}
+use Rattle.std.proofs.Common.{length, refl, rules, ◌∙◌}
+use Rattle.std.proofs.lemmas.Result.{IfOk-weaker}
 use Rattle.chain.specs.Answers.{encode_cause}
-use Rattle.printing.proofs.Telling.{written_back, told_by, text_is, encoded_is}
+use Rattle.chain.specs.Calls.{Encodes}
+use Rattle.printing.proofs.Telling.{told_by, encoded_is}
 use Rattle.printing.proofs.calls.encode_level.Goals as goal
 
 pub returns : goal.returns
@@ -8,8 +10,8 @@ returns g c =
     let C = g.C.Chain.meaning c.args.chain.now in
     let i = c.args.level in
     let xs = c.args.message.now in
-    let out = c.as_mut_slice.result.now in
-    text_is c.told.result string_bytes
-    (told_by (encode_cause C i xs (length out)) (C.encoding i xs) out (c.as_slice.ensures.value ∙ written_back c.encode-result.new.out _ _ (sym (c.encode-result.auto.out ∙ c.as_mut_slice.ensures.len))) c.encode-result.ensures.result c.encode-result.ensures.after
-    ∙ encoded_is C i xs (length out) (c.as_mut_slice.ensures.len ∙ c.in_ok-out.ensures.len ∙ c.length.ensures))
-    c.told.ensures
+    IfOk-weaker c.written.result _ _ (λ s w.
+    let kept : Encodes C i xs w.0.now w.1 w.2.now = search rules in
+    w.5 ∙ told_by (encode_cause C i xs (length w.0.now)) (C.encoding i xs) w.0.now refl kept.result kept.after
+    ∙ encoded_is C i xs (length w.0.now) (w.3 ∙ c.length.ensures))
+    c.written.ensures

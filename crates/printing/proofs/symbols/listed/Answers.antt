@@ -1,12 +1,12 @@
 -- Each turn writes a symbol after a space.
-use Rattle.std.proofs.Common.{◌++◌, string_bytes, ap, ◌∙◌}
+use Rattle.std.proofs.Common.{string_bytes}
 use Rattle.printing.proofs.Writing.{symbol_more, symbols_whole}
 use Rattle.printing.proofs.symbols.listed.Goals as goal
 
 pub loop-symbol-preserved : goal.loop-symbol-preserved
 loop-symbol-preserved c =
     symbol_more (string_bytes c.in_ok-text.text) c.in-Some.rest.now c.loop-symbol.symbol-index c.loop-symbol-test.true c.loop-symbol.invariant
-    (c.in_ok-push_str.ensures.bytes ∙ ap (λ bs. string_bytes c.loop-symbol.text ++ bs) (c.as_str.ensures.value ∙ c.in_ok-more.ensures.ok))
+    c.in_ok-write.ensures.bytes
 
 pub returns : goal.returns
 returns c =

@@ -8,8 +8,8 @@ use Rattle.code.proofs.Rows.{held_length}
 use Rattle.code.proofs.Sentence.{passes_decides}
 use Rattle.code.proofs.matrix.Matrix.is_nonsingular.Goals as goal
 
-pub passes_from-requires : goal.passes_from-requires
-passes_from-requires g c =
+pub passes-requires : goal.passes-requires
+passes-requires g c =
     let w = c.args.self.now.width in
     let is = c.none_taken.ensures in
     let all : w + (8 - w) ≡ 8 = omega (arith, c.args.self.now.narrow) in
@@ -24,5 +24,5 @@ returns g c =
     let a = c.args.self.now in
     let F = g.F.Field.meaning c.args.f.now in
     let tall : a.height ≤ length a.rows = omega (arith, a.tall, a.low) in
-    c.passes_from.ensures ∙ ap (passes F (held a)) c.none_taken.ensures
+    c.passes.ensures ∙ ap (passes F (held a)) c.none_taken.ensures
     ∙ passes_decides (g.met.F.Field.lawful c.args.f.now) a.height a.width (held a) (8 - a.width) (held_length a.rows a.height a.width tall) c.requires.0

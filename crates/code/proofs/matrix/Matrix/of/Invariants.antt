@@ -5,7 +5,8 @@ use Rattle.code.proofs.matrix.Matrix.of.Given as goal
 
 -- the rows so far are held
 abbrev pub invariant-loop-i : goal.invariant-loop-i
-invariant-loop-i l =
-    (map (take l.width) (take l.i l.rows) ≡ rows_to l.width l.entries l.i)
-    × (length l.rows ≡ 4)
-    × ((k : ℕ) → k < 4 → length (get_or l.rows k []) ≡ 8)
+invariant-loop-i l = record {
+  cut : map (take l.width) (take l.i l.rows) ≡ rows_to l.width l.entries l.i;
+  tall : length l.rows ≡ 4;
+  wide : (k : ℕ) → k < 4 → length (get_or l.rows k []) ≡ 8;
+}

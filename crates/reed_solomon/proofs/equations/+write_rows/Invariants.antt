@@ -1,0 +1,5 @@
+use Rattle.std.proofs.Common.{length}
+use Rattle.reed_solomon.proofs.equations.+write_rows.Given as goal
+
+abbrev pub decreases-write_rows : goal.decreases-write_rows
+decreases-write_rows g l = length l.ys.now
