@@ -82,7 +82,7 @@ def places(texts):
     for name, text in texts:
         for found in re.finditer(r"^\s*(?:requires|ensures)(?: \w+)? \{ (.*) \}$", text, re.M):
             fact = re.sub(r"\.(?:now|old|new)\b|\b(?:self|result|block|ys|xs|rows|row|out|word|message|others|first|pivot|a|v)\b", "_", found.group(1))
-            clauses[(name.split("/")[1], fact)].append((name, text.count("\n", 0, found.start()) + 2))
+            clauses[(name.split("/")[1], fact)].append((name, text.count("\n", 0, found.start() + len(found.group(0)) - len(found.group(0).lstrip())) + 1))
     for (crate, fact), found in clauses.items():
         if len(found) > 2:
             for name, line in found:

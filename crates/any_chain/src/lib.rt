@@ -17,7 +17,7 @@ use plain::Plain;
 use reed_solomon::ReedSolomon;
 use refusal::Refusal;
 
-// Each method asks the chain inside: the two kinds are closed, so an enum serves, and needs no heap as a trait object would.
+// The two kinds are closed, so an enum serves, and needs no heap as a trait object would.
 #[derive(Clone, Copy, PartialEq, Eq, Debug)]
 pub enum AnyChain {
     Plain(Plain<AnyField>),
@@ -38,6 +38,16 @@ impl AnyChain {
     }
 }
 
+// The same call of the chain inside, whichever kind it is.
+macro_rules! inside {
+    ($any:expr, $chain:ident => $call:expr) => {
+        match $any {
+            AnyChain::Plain($chain) => $call,
+            AnyChain::ReedSolomon($chain) => $call,
+        }
+    };
+}
+
 impl Chain for AnyChain {
     type Over = AnyField;
 
@@ -50,65 +60,38 @@ impl Chain for AnyChain {
     ] };
 
     fn flaw(&self) -> Option<Refusal> {
-        match self {
-            AnyChain::Plain(c) => c.flaw(),
-            AnyChain::ReedSolomon(c) => c.flaw(),
-        }
+        inside!(self, c => c.flaw())
     }
 
     fn field(&self) -> &AnyField {
-        match self {
-            AnyChain::Plain(c) => c.field(),
-            AnyChain::ReedSolomon(c) => c.field(),
-        }
+        inside!(self, c => c.field())
     }
 
     fn length(&self) -> usize {
-        match self {
-            AnyChain::Plain(c) => c.length(),
-            AnyChain::ReedSolomon(c) => c.length(),
-        }
+        inside!(self, c => c.length())
     }
 
     fn levels(&self) -> usize {
-        match self {
-            AnyChain::Plain(c) => c.levels(),
-            AnyChain::ReedSolomon(c) => c.levels(),
-        }
+        inside!(self, c => c.levels())
     }
 
     fn size(&self, level: usize) -> Result<usize, Refusal> {
-        match self {
-            AnyChain::Plain(c) => c.size(level),
-            AnyChain::ReedSolomon(c) => c.size(level),
-        }
+        inside!(self, c => c.size(level))
     }
 
     fn distance(&self, level: usize) -> Result<usize, Refusal> {
-        match self {
-            AnyChain::Plain(c) => c.distance(level),
-            AnyChain::ReedSolomon(c) => c.distance(level),
-        }
+        inside!(self, c => c.distance(level))
     }
 
     fn encode(&self, level: usize, message: &[u8], out: &mut [u8]) -> Result<(), Refusal> {
-        match self {
-            AnyChain::Plain(c) => c.encode(level, message, out),
-            AnyChain::ReedSolomon(c) => c.encode(level, message, out),
-        }
+        inside!(self, c => c.encode(level, message, out))
     }
 
     fn correct(&self, level: usize, block: &mut [u8], scratch: &mut [u8]) -> Result<(), Refusal> {
-        match self {
-            AnyChain::Plain(c) => c.correct(level, block, scratch),
-            AnyChain::ReedSolomon(c) => c.correct(level, block, scratch),
-        }
+        inside!(self, c => c.correct(level, block, scratch))
     }
 
     fn strip(&self, level: usize, block: &[u8], out: &mut [u8]) -> Result<(), Refusal> {
-        match self {
-            AnyChain::Plain(c) => c.strip(level, block, out),
-            AnyChain::ReedSolomon(c) => c.strip(level, block, out),
-        }
+        inside!(self, c => c.strip(level, block, out))
     }
 }

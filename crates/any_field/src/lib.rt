@@ -11,7 +11,7 @@ use gf16::Gf16;
 use gfp::GfP;
 use refusal::Refusal;
 
-// Each method asks the field inside: the two kinds are closed, so an enum serves, and needs no heap as a trait object would.
+// The two kinds are closed, so an enum serves, and needs no heap as a trait object would.
 #[derive(Clone, Copy, PartialEq, Eq, Debug)]
 pub enum AnyField {
     Sixteen(Gf16),
@@ -31,43 +31,38 @@ impl AnyField {
     }
 }
 
+// The same call of the field inside, whichever kind it is.
+macro_rules! inside {
+    ($any:expr, $field:ident => $call:expr) => {
+        match $any {
+            AnyField::Sixteen($field) => $call,
+            AnyField::Prime($field) => $call,
+        }
+    };
+}
+
 impl Field for AnyField {
     ghost meaning = { meant };
 
     ghost lawful = { λ f. meant_field f };
 
     fn order(&self) -> u8 {
-        match self {
-            AnyField::Sixteen(f) => f.order(),
-            AnyField::Prime(f) => f.order(),
-        }
+        inside!(self, f => f.order())
     }
 
     fn sum(&self, a: u8, b: u8) -> Result<u8, Refusal> {
-        match self {
-            AnyField::Sixteen(f) => f.sum(a, b),
-            AnyField::Prime(f) => f.sum(a, b),
-        }
+        inside!(self, f => f.sum(a, b))
     }
 
     fn opposite(&self, a: u8) -> Result<u8, Refusal> {
-        match self {
-            AnyField::Sixteen(f) => f.opposite(a),
-            AnyField::Prime(f) => f.opposite(a),
-        }
+        inside!(self, f => f.opposite(a))
     }
 
     fn product(&self, a: u8, b: u8) -> Result<u8, Refusal> {
-        match self {
-            AnyField::Sixteen(f) => f.product(a, b),
-            AnyField::Prime(f) => f.product(a, b),
-        }
+        inside!(self, f => f.product(a, b))
     }
 
     fn inverse(&self, a: u8) -> Result<u8, Refusal> {
-        match self {
-            AnyField::Sixteen(f) => f.inverse(a),
-            AnyField::Prime(f) => f.inverse(a),
-        }
+        inside!(self, f => f.inverse(a))
     }
 }

@@ -2,6 +2,6 @@ pub mod Meaning
 pub mod Search
 pub mod Answers
 pub mod Follows
-pub mod Held
+pub mod LevelNumbers
 pub mod Calls
 pub mod Padded

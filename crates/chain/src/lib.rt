@@ -15,6 +15,9 @@ mod numbers;
 pub use levels::radius;
 pub use numbers::LevelNumbers;
 
+// The least scratch that `correct` takes.
+pub const SCRATCH_BYTES: usize = 4096;
+
 // A ladder of s levels of words of m symbols. Levels are counted from 1.
 pub trait Chain {
     type Over: Field;

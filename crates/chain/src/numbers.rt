@@ -1,6 +1,6 @@
 // Up to four small numbers, one for each level of a chain.
 ghost use Rattle.std.specs.Prelude.{◌≡◌, ◌≤◌, length};
-ghost use Rattle.chain.specs.Held.{fitted, at_level};
+ghost use Rattle.chain.specs.LevelNumbers.{fitted, at_level};
 
 use std::marker::Model;
 
@@ -28,7 +28,8 @@ impl Model for LevelNumbers {
 }
 
 impl LevelNumbers {
-    // Holds the numbers, or none if there are more than four: so it is no `From`, which would promise to hold them.
+    // Holds the numbers, or none if there are more than four. No `From`, which would promise to hold them all, and no `TryFrom`,
+    // since making a chain is never refused.
     pub fn of(numbers: &[u8]) -> LevelNumbers
         ensures { result ≡ fitted numbers.now }
     {

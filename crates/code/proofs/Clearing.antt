@@ -1,13 +1,10 @@
 -- A row cleared by the top row, and the columns of the rows so cleared. Assumes nothing.
-use Rattle.std.proofs.Common.{add-one, ◌≢◌, ◌≡◌, ℕ, zero, suc, ◌+◌, ◌-◌, ◌<◌, true, cond, T, eqb, List, [], ◌∷◌, map, length, get_or, sym, refl, ap, ◌∙◌, subst, ap₂, arith, lt→ltb}
+use Rattle.std.proofs.Common.{add-one, ◌≡◌, ℕ, zero, suc, ◌+◌, ◌-◌, ◌<◌, T, List, [], ◌∷◌, map, length, get_or, sym, refl, ap, ◌∙◌, subst, ap₂, arith}
 use native.Mathlib.Decide.{dec_lt}
-use lib.Dec.{eqb_refl}
 use Rattle.std.proofs.lemmas.List.{length-map, get_or-map, get_or_past}
 use Rattle.field.specs.Meaning.{Meaning, IsField, opposite_of, inverse_of}
-use Rattle.field.specs.Words.{symbols, plus_scaled, addable, product_or_0, opposite_or_0, inverse_or_0}
-use Rattle.field.proofs.Accepted.{both_hold, product_or_0_is, opposite_or_0_is, inverse_or_0_is}
+use Rattle.field.specs.Words.{symbols, plus_scaled}
 use Rattle.field.proofs.Laws.{product_zero, opposite_of_multiple, opposite_small}
-use Rattle.field.proofs.Tests.{true_is}
 use Rattle.field.proofs.Unique.{zero_small}
 use Rattle.field.proofs.WordLaws.{symbol_at}
 use Rattle.algebra.specs.Matrices.{reduced}
@@ -23,25 +20,6 @@ module _ {F : Meaning} (lawful : IsField F) where
     | yes h ↦ symbol_at F.q xs t i h
     | no h ↦ subst (λ x. x < F.q) (sym (get_or_past xs i 0 (omega arith))) (zero_small lawful)
   ]
-
-  -- what the code computes is the cleared row
-  pub clear_is : (p i m a : ℕ) (top row out : List ℕ) → get_or top p 0 ≢ 0 → T (symbols F.q top) → T (symbols F.q row) → length row ≡ length top
-      → i ≡ inverse_or_0 F (get_or top p 0) → m ≡ product_or_0 F (get_or row p 0) i → a ≡ opposite_or_0 F m
-      → out ≡ cond (addable F a row top) (plus_scaled F a row top) row
-      → out ≡ cleared_row F p top row
-  clear_is p i m a top row out lead st sr long ei em ea eo =
-      let ht = symbol_any top st p in
-      let hr = symbol_any row sr p in
-      let ii : i ≡ inverse_of F (get_or top p 0) = ei ∙ inverse_or_0_is F (get_or top p 0) ht lead in
-      let hi : i < F.q = subst (λ x. x < F.q) (sym ii) (inverse_below F lawful (get_or top p 0)) in
-      let mm : m ≡ F.product (get_or row p 0) i = em ∙ product_or_0_is F (get_or row p 0) i hr hi in
-      let hm : m < F.q = subst (λ x. x < F.q) (sym mm) (lawful.product_closed _ _ hr hi) in
-      let aa : a ≡ opposite_of F m = ea ∙ opposite_or_0_is F m hm in
-      let ha : a < F.q = subst (λ x. x < F.q) (sym aa) (opposite_small lawful m hm) in
-      let ok : addable F a row top ≡ true
-      = true_is _ (both_hold _ _ (both_hold _ _ (both_hold _ _ (lt→ltb a F.q ha) sr) st) (subst (λ n. T (eqb (length row) n)) long (eqb_refl (length row)))) in
-      eo ∙ ap (λ b. cond b (plus_scaled F a row top) row) ok
-      ∙ ap (λ z. plus_scaled F z row top) (aa ∙ ap (opposite_of F) (mm ∙ ap (F.product (get_or row p 0)) ii))
 
   -- one entry of a row with a multiple of another added
   entry_added : (a : ℕ) → a < F.q → (r top : List ℕ) → length r ≡ length top → (j : ℕ) → get_or (plus_scaled F a r top) j 0 ≡ F.sum (get_or r j 0) (F.product a (get_or top j 0))

@@ -1,8 +1,8 @@
 -- A matrix held in an array of rows, and the rows cut from its entries. Assumes nothing.
-use Rattle.std.proofs.Common.{◌≡◌, ℕ, suc, refl, Bool, ◌&&◌, ◌+◌, ◌-◌, ◌*◌, ◌<◌, ◌≤◌, List, [], ◌∷◌, ◌++◌, map, length, get_or, take, drop, set, ap, ◌∙◌, subst, mul-le-mul_right, suc-mul, arith, length-drop, length-take}
+use Rattle.std.proofs.Common.{◌≡◌, ℕ, suc, refl, Bool, ◌&&◌, ◌+◌, ◌*◌, ◌<◌, ◌≤◌, List, [], ◌∷◌, ◌++◌, map, length, get_or, take, drop, set, ap, ◌∙◌, subst, mul-le-mul_right, suc-mul, arith, length-drop, length-take}
 use native.Mathlib.Decide.{ℕ_discrete}
 use lib.ListN.{length-map}
-use Rattle.std.proofs.lemmas.List.{take_at, length-append, length-set, length-take-le, get_or-map, get_or-take, get_or-set_same, get_or-set_other, take_all, take_more_set, map_push}
+use Rattle.std.proofs.lemmas.List.{take_at, length-append, length-set, get_or-map, get_or-take, get_or-set_same, get_or-set_other, take_more_set, map_push}
 use Rattle.std.specs.List.{list_all}
 use Rattle.algebra.specs.Matrices.{every}
 
@@ -45,10 +45,3 @@ row_written w i rows entries old narrow low tall wide long eight =
         | no other ↦ ap length (get_or-set_other rows i k row [] other) ∙ wide k h
       ];
     }
-
--- a row as it is cut from the entries
-pub row_cut : (w i : ℕ) (xs : List ℕ) → i * w + w ≤ length xs → take w (take (length xs - i * w) (drop (i * w) xs)) ≡ take w (drop (i * w) xs)
-row_cut w i xs fits = ap (take w) (take_all _ (drop (i * w) xs) (omega (arith, length-drop (i * w) xs)))
-
-pub row_cut_long : (w i : ℕ) (xs : List ℕ) → i * w + w ≤ length xs → length (take w (drop (i * w) xs)) ≡ w
-row_cut_long w i xs fits = length-take-le w (drop (i * w) xs) (omega (arith, length-drop (i * w) xs))

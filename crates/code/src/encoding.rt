@@ -1,6 +1,6 @@
 // The codeword of a message.
 ghost use Rattle.std.specs.Prelude.{◌≡◌, ◌*◌, length, None};
-ghost use Rattle.field.specs.Words.{symbols, plus_scaled};
+ghost use Rattle.field.specs.Words.{plus_scaled};
 ghost use Rattle.chain.specs.Meaning.{Level, Word};
 ghost use Rattle.code.specs.Answers.{Encodes};
 ghost use Rattle.code.specs.Held.{meant, held};
@@ -13,7 +13,7 @@ use chain::Chain;
 use field::are_symbols;
 use refusal::Refusal;
 
-// The word of a level's message.
+// The word of a level's message. What is known of the chain stands in the clauses, as in the numbers: there is one caller.
 fn write_word<C: Chain>(chain: &C, level: usize, message: &[u8], out: &mut [u8])
     requires sound { (C.Chain.meaning chain.now).flaw ≡ None }
     requires level { Level (C.Chain.meaning chain.now) level }

@@ -65,6 +65,7 @@ impl<C: Chain> Code<C> {
     pub(crate) fn checked(&self) -> Result<&Self, Refusal>
         ensures { MatchResult result (λ code. (code.now ≡ self.now) × (code_flaw (meant C.Chain.meaning self.now) ≡ None)) (λ flaw. code_flaw (meant C.Chain.meaning self.now) ≡ Some flaw) }
     {
+        // The arms say what the flaw is, which a closure handed to `map_or` would not know.
         match self.flaw() {
             None => Ok(self),
             Some(flaw) => Err(flaw),

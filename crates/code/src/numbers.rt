@@ -1,10 +1,13 @@
 // The numbers that a code tells. A code with a flaw tells 0.
+//
+// That the chain has no flaw, and that a level is there, stand in the clauses: each function has one caller, which has just asked
+// for it, so a struct that kept the fact would be made to be taken apart.
 ghost use Rattle.std.specs.Prelude.{◌≡◌, ◌+◌, ◌-◌, ◌*◌, ◌≤◌, None};
 ghost use Rattle.chain.specs.Answers.{told};
 ghost use Rattle.chain.specs.Meaning.{Level};
 ghost use Rattle.code.specs.Held.{meant};
 ghost use Rattle.code.specs.One.{Respected};
-ghost use Rattle.code.specs.Numbers.{code_flaw, k_of, n_of, d_of, t_of, choices_of, sum_to, least_to, falling, Separates};
+ghost use Rattle.code.specs.Numbers.{code_flaw, telling, k_of, n_of, d_of, t_of, choices_of, sum_to, least_to, falling, Separates};
 
 use crate::Code;
 use chain::Chain;
@@ -26,7 +29,8 @@ fn distance_of<C: Chain>(chain: &C, level: usize) -> usize
     chain.distance(level).unwrap_or(0)
 }
 
-// The sum of the sizes of all levels. By a loop, as below: `sum` and `product` of a range left their bound and value open.
+// The sum of the sizes of all levels. By a loop, as below: with `sum` and `product` over a range,
+// which were tried, the goals of their bound and of their value stayed open.
 pub(crate) fn total_size<C: Chain>(chain: &C) -> usize
     requires { (C.Chain.meaning chain.now).flaw ≡ None }
     ensures { result ≡ sum_to (C.Chain.meaning chain.now).size (C.Chain.meaning chain.now).s }
@@ -76,14 +80,14 @@ impl<C: Chain> Code<C> {
 
     // k, the symbols of a message.
     pub fn message_length(&self) -> usize
-        ensures { result ≡ told (code_flaw (meant C.Chain.meaning self.now)) (k_of (meant C.Chain.meaning self.now)) }
+        ensures { result ≡ telling k_of (meant C.Chain.meaning self.now) }
     {
         self.checked().map_or(0, |code| total_size(&code.chain))
     }
 
     // n, the symbols of a codeword.
     pub fn word_length(&self) -> usize
-        ensures { result ≡ told (code_flaw (meant C.Chain.meaning self.now)) (n_of (meant C.Chain.meaning self.now)) }
+        ensures { result ≡ telling n_of (meant C.Chain.meaning self.now) }
     {
         self.checked()
             .map_or(0, |code| code.chain.length() * code.l)
@@ -91,7 +95,7 @@ impl<C: Chain> Code<C> {
 
     // d, the least number of places where two codewords differ.
     pub fn distance(&self) -> usize
-        ensures { result ≡ told (code_flaw (meant C.Chain.meaning self.now)) (d_of (meant C.Chain.meaning self.now)) }
+        ensures { result ≡ telling d_of (meant C.Chain.meaning self.now) }
     {
         self.checked()
             .map_or(0, |code| least_distance(&code.chain, code.l))
@@ -99,7 +103,7 @@ impl<C: Chain> Code<C> {
 
     // t, the number of differences that the code corrects: at most one codeword is so near to a word.
     pub fn radius(&self) -> usize
-        ensures value { result ≡ told (code_flaw (meant C.Chain.meaning self.now)) (t_of (meant C.Chain.meaning self.now)) }
+        ensures value { result ≡ telling t_of (meant C.Chain.meaning self.now) }
         ensures separates { Separates (meant C.Chain.meaning self.now) }
         ensures respected { Respected (meant C.Chain.meaning self.now) }
     {
@@ -108,7 +112,7 @@ impl<C: Chain> Code<C> {
 
     // L, the number of choices of s different columns in order.
     pub fn choices(&self) -> usize
-        ensures { result ≡ told (code_flaw (meant C.Chain.meaning self.now)) (choices_of (meant C.Chain.meaning self.now)) }
+        ensures { result ≡ telling choices_of (meant C.Chain.meaning self.now) }
     {
         self.checked()
             .map_or(0, |code| count_choices(&code.chain, code.l))

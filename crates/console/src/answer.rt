@@ -8,6 +8,7 @@ use refusal::Refusal;
 use std::alloc::AllocError;
 use std::fmt;
 
+// A failure, and that a line is not understood, are answers: they are printed as the others are.
 #[derive(Debug, PartialEq, Eq, Drop)]
 pub enum Answer {
     Field(u8),

@@ -3,7 +3,7 @@ ghost use Rattle.std.specs.Prelude.{◌≡◌, ℕ, List, IfOk, OnOk, string_byt
 ghost use Rattle.std.specs.Option.{option_map, ok_or};
 ghost use Rattle.field.specs.Meaning as fields;
 ghost use Rattle.chain.specs.Meaning as chains;
-ghost use Rattle.any_field.specs.Kinds.{meant, of_order};
+ghost use Rattle.any_field.specs.Kinds.{of_order};
 ghost use Rattle.any_chain.specs.Kinds.{chain_meant};
 ghost use Rattle.code.specs.Meaning.{joining};
 ghost use Rattle.code.specs.Numbers.{code_flaw};
@@ -11,7 +11,7 @@ ghost use Rattle.script.specs.Commands.{view, sheet, encode, code};
 ghost use Rattle.script.specs.Lines.{parsed};
 ghost use Rattle.console.specs.Answers.{Answers, IfAnswered, MakesBy, Prints, after, chain_made, kept, made_of, on, standing_after, text_on, told};
 ghost use Rattle.console.specs.Printed.{printed};
-ghost use Rattle.console.specs.Standing.{Standing, standing, nothing};
+ghost use Rattle.console.specs.Standing.{standing, nothing};
 ghost use Rattle.console.specs.declared.answer.Failure.TheVariants.{NotYet};
 ghost use Rattle.console.specs.declared.answer.Missing.TheVariants.{Field as FieldMissing, Chain as ChainMissing, Code as CodeMissing};
 
@@ -122,6 +122,7 @@ impl Session {
         }
     }
 
+    // One function for each, since which field of the struct is meant is no parameter.
     fn standing_field(&self) -> Result<AnyField, Failure>
         ensures { result ≡ ok_or self.now.field (NotYet FieldMissing) }
     {

@@ -13,14 +13,15 @@ use plain::Plain;
 use reed_solomon::ReedSolomon;
 use refusal::Refusal;
 
-// 0, or the number of the refusal.
+// 0, or the number of the refusal: C takes numbers and slices alone.
 fn number_of(res: Result<(), Refusal>) -> u8
     ensures { result ≡ number res }
 {
     Refusal::number_or_0(res.err())
 }
 
-// The calls below come in pairs, since C knows a chain by the name of the call, and takes numbers and slices alone.
+// The same calls stand here for each kind of chain, since C knows a chain by the name of the call.
+// The answers are matched, since a closure over the caller's slices would have to say again what the call does to them.
 
 // Over the field of q symbols, a plain chain's `encode`. A field that is refused is answered before anything else.
 #[unsafe(no_mangle)]

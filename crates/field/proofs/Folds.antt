@@ -1,5 +1,5 @@
 -- What a chain of iterators computes, as the recursion of a definition. Assumes nothing.
-use Rattle.std.proofs.Common.{◌≡◌, ℕ, ◌+◌, ◌<◌, ◌≤◌, Bool, true, false, cond, not, eqb, List, [], ◌∷◌, ◌++◌, length, reverse, get_or, set, take, drop, sym, ap, ◌∙◌, ap₂, arith, zip, min, append-nil, take_all, take-append-drop}
+use Rattle.std.proofs.Common.{◌≡◌, ℕ, ◌+◌, ◌<◌, ◌≤◌, Bool, true, false, cond, not, eqb, List, [], ◌∷◌, ◌++◌, length, reverse, get_or, set, take, drop, sym, ap, ◌∙◌, ap₂, arith, zip, min, take-append-drop}
 use mathlib.Core.List.{reverse-cons}
 use Rattle.std.specs.Int.{abs_diff}
 use Rattle.std.specs.List.{count_by, fold}
@@ -34,9 +34,6 @@ module _ (G : List ℕ → List ℕ → List ℕ) (h : ℕ → ℕ → ℕ) (out
 
   pub rest_stays : ((xs : List ℕ) → G xs [] ≡ xs) → length vs ≤ i → take i out ++ G (drop i out) (drop i vs) ≡ out
   rest_stays nil past = ap (λ d. take i out ++ G (drop i out) d) (drop_all i vs past) ∙ ap (λ d. take i out ++ d) (nil (drop i out)) ∙ take-append-drop i out
-
-  pub all_written : ((us : List ℕ) → G [] us ≡ []) → length out ≤ i → take i out ++ G (drop i out) (drop i vs) ≡ out
-  all_written nil past = ap₂ (λ t d. t ++ G d (drop i vs)) (take_all i out past) (drop_all i out past) ∙ ap (λ d. out ++ d) (nil (drop i vs)) ∙ append-nil out
 
 -- both words' lengths bound what is counted
 pub counted_most : (xs ys : List ℕ) → count_by (λ p. not (eqb p.0 p.1)) (zip xs ys) ≤ min (length xs) (length ys)

@@ -1,5 +1,5 @@
-// Functions over words, slices of symbols, that all layers share. Each makes its own checks.
-ghost use Rattle.std.specs.Prelude.{◌≡◌, ◌&&◌, if◌then◌else◌, count_by, nat_eq, not, zip};
+// Functions over words, slices of symbols, that all layers share. Each makes its own checks, but for the total ones.
+ghost use Rattle.std.specs.Prelude.{◌≡◌, if◌then◌else◌, count_by, nat_eq, not, zip};
 ghost use Rattle.field.specs.Places.{distance as differing};
 ghost use Rattle.field.specs.Words.{symbols, totalled, evaluated, addable, done_if, plus_scaled, value_or_0, plus_scaled_or_0};
 

@@ -30,6 +30,7 @@ impl GfP {
     fn times(&self, a: u8, b: u8) -> u8
         ensures { result ≡ a * b % self.now.p }
     {
+        // The remainder is below p, so it fits.
         (u16::from(a) * u16::from(b) % u16::from(self.p)) as u8
     }
 

@@ -6,9 +6,9 @@ use Rattle.field.specs.Meaning.{IsField}
 use Rattle.field.specs.Meaning as fields
 use Rattle.field.specs.Places.{distance}
 use Rattle.chain.specs.Answers.{scratch_bytes}
-use Rattle.chain.specs.Calls.{Encodes, Corrects, Strips}
+use Rattle.chain.specs.Calls.{Corrects, Strips}
 use Rattle.chain.specs.Meaning.{Meaning, Level, Word, radius}
-use Rattle.chain.proofs.Causes.{is_level_yes, encode_bad, correct_bad, correct_none, correct_done, strip_bad, strip_none, strip_done}
+use Rattle.chain.proofs.Causes.{is_level_yes, correct_none, correct_done, strip_none, strip_done}
 use Rattle.chain.proofs.Facts.{message_near_is, message_near_none, message_of_is, message_of_none}
 use Rattle.plain.specs.Kinds.{plain, plain_flaw, sound, kind_at, kind_size, kind_distance, kind_word, kind_of, kind_numbered, kind_told, is_kind}
 use Rattle.plain.specs.Words.{fits, BlockCorrected, BlockStripped}
@@ -42,20 +42,6 @@ module _ {F : fields.Meaning} (lawful : IsField F) (m : ℕ) (ks : List ℕ) (no
 
     same : k ≡ kind_at ks i
     same = (there (is_kind ks i) (slice_index ks (i - 1)) k is).1
-
-    pub encode_refused : (xs out : List ℕ) → (Word F (kind_size m k) xs → length out ≡ m → ⊥) → Encodes (plain F m ks) i xs out (Err BadArgument) out
-    encode_refused xs out h =
-        as_sound (λ C. Encodes C i xs out (Err BadArgument) out)
-        (encode_bad (sound F m ks) i xs out refl (λ _ word long. h (subst (λ l. Word F (kind_size m l) xs) (sym same) word) long))
-
-    pub correct_refused : (b scratch : List ℕ) → (Word F m b → ⊥) → Corrects (plain F m ks) i b scratch (Err BadArgument) b scratch
-    correct_refused b scratch h =
-        as_sound (λ C. Corrects C i b scratch (Err BadArgument) b scratch) (correct_bad (sound F m ks) i b scratch refl (λ _ word. h word))
-
-    pub strip_refused : (b out : List ℕ) → (Word F m b → length out ≡ kind_size m k → ⊥) → Strips (plain F m ks) i b out (Err BadArgument) out
-    strip_refused b out h =
-        as_sound (λ C. Strips C i b out (Err BadArgument) out)
-        (strip_bad (sound F m ks) i b out refl (λ _ word long. h word (long ∙ ap (kind_size m) (sym same))))
 
     corrected_sound : (b scratch : List ℕ) → Word F m b → scratch_bytes ≤ length scratch → (r : Result (Unit {0}) Refusal) (kept : List ℕ) → BlockCorrected F (kind_at ks i) b r kept → Corrects (sound F m ks) i b scratch r kept scratch
     corrected_sound b scratch word enough (Ok _) kept near =

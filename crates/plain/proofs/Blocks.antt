@@ -1,5 +1,5 @@
 -- When a block is near to a word of a kind. Assumes nothing.
-use Rattle.std.proofs.Common.{◌⊎◌, inl, inr, Bool, true, false, cond, not, nat_eq, ◌+◌, ap, ◌≡◌, ℕ, suc, ◌<◌, ◌≤◌, T, eqb, List, [], ◌∷◌, ◌++◌, length, set, drop, get_or, take, replicate, sym, refl, ◌∙◌, subst, arith, eqb→eq, lt→ltb}
+use Rattle.std.proofs.Common.{◌⊎◌, inl, inr, Bool, true, false, cond, not, nat_eq, ◌+◌, ap, ◌≡◌, ℕ, suc, ◌<◌, ◌≤◌, T, eqb, List, [], ◌∷◌, ◌++◌, length, set, drop, get_or, take, sym, refl, ◌∙◌, subst, arith, eqb→eq}
 use native.Mathlib.Decide.{ℕ_discrete}
 use lib.Dec.{eqb_refl}
 use Rattle.std.specs.List.{count_by}
@@ -8,13 +8,11 @@ use Rattle.field.specs.Meaning.{IsField}
 use Rattle.field.specs.Meaning as fields
 use Rattle.field.specs.Places.{distance, unless}
 use Rattle.field.specs.Words.{symbols}
-use Rattle.field.proofs.Accepted.{both_hold}
 use Rattle.field.proofs.Metric.{bool_path, eqb_tells, distance_zero, distance_itself}
 use Rattle.field.proofs.Tests.{is_false}
-use Rattle.field.proofs.WordLaws.{symbol_at}
 use Rattle.chain.specs.Meaning.{Word, radius}
 use Rattle.plain.specs.Kinds.{kind_size, kind_distance}
-use Rattle.plain.specs.Words.{fits, others, Elected, Near}
+use Rattle.plain.specs.Words.{fits, others, Near}
 use Rattle.plain.specs.declared.kinds.Kind.{Kind}
 use Rattle.plain.specs.declared.kinds.Kind.TheVariants.{Every, ZeroSum, Repeated}
 use Rattle.plain.specs.KindLaws as kinds
@@ -67,16 +65,6 @@ module _ {F : fields.Meaning} (lawful : IsField F) (b : List ℕ) (two : 2 ≤ l
       let close : others x b ≤ radius (length b) = subst (λ v. distance v b ≤ radius (length b)) near.word near.close in
       let r = somewhere x b (omega arith) in
       h r.0 r.1 (subst (λ y. others y b ≤ radius (length b)) (sym r.2) close)
-
-  pub elected : (x : ℕ) → Elected b x → Near F Repeated b (replicate (length b) x)
-  elected x e =
-      let small : x < F.q = subst (λ y. y < F.q) e.stands (symbol_at F.q b all e.place e.within) in
-      record {
-        message = x ∷ [];
-        lawful = record { long = refl; all = both_hold _ _ (lt→ltb x F.q small) tt };
-        word = refl;
-        close = e.near;
-      }
 
   word : Word F (length b) b
   word = record { long = refl; all = all }

@@ -4,11 +4,9 @@ ghost use Rattle.plain.specs.Kinds.{plain, kind_told};
 ghost use Rattle.plain.specs.Lawful.{is_lawful};
 
 use crate::{Kind, Plain};
-use chain::Chain;
+use chain::{Chain, SCRATCH_BYTES};
 use field::{Field, are_symbols};
 use refusal::Refusal;
-
-const SCRATCH_BYTES: usize = 4096;
 
 impl<F: Field> Plain<F> {
     // The kind of a level that is there.
@@ -43,6 +41,7 @@ impl<F: Field> Chain for Plain<F> {
             .map_or(0, |chain| chain.kinds.as_slice().len())
     }
 
+    // This and the next differ in what they ask of the kind: one function for both would take that as a closure, and say no less.
     fn size(&self, level: usize) -> Result<usize, Refusal> {
         match self.checked() {
             Ok(chain) => Ok(chain.kind_at(level)?.size(chain.m)),

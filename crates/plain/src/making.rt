@@ -34,10 +34,11 @@ impl<F: Field> Plain<F> {
         }
     }
 
-    // The chain, if it has no flaw.
+    // The chain, if it has no flaw. By the chain's own test: over the trait's `flaw` the answer would not tell what that test found.
     pub(crate) fn checked(&self) -> Result<&Self, Refusal>
         ensures { MatchResult result (λ c. (c.now ≡ self.now) × (plain_flaw (F.Field.meaning self.now.field) self.now.m self.now.kinds ≡ None)) (λ flaw. plain_flaw (F.Field.meaning self.now.field) self.now.m self.now.kinds ≡ Some flaw) }
     {
+        // The arms say what the flaw is, which a closure handed to `map_or` would not know.
         match self.find_flaw() {
             None => Ok(self),
             Some(flaw) => Err(flaw),
@@ -66,6 +67,7 @@ fn never_fall(kinds: &[u8]) -> bool
     kinds.iter().zip(kinds.iter().skip(1)).all(|(k, l)| k <= l)
 }
 
+// By number, since the chain keeps the numbers as they were given.
 fn occurs(kind: u8, kinds: &[u8]) -> bool
     ensures { result ≡ has kind kinds.now }
 {

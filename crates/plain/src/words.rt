@@ -3,7 +3,7 @@
 ghost use Rattle.std.specs.Prelude.{◌≡◌, ℕ, ◌<◌, ◌≤◌, T, length, MatchOption, slice_index};
 ghost use Rattle.field.specs.Words.{symbols};
 ghost use Rattle.chain.specs.Meaning.{Word, radius};
-ghost use Rattle.plain.specs.Kinds.{kind_size, kind_distance, kind_word};
+ghost use Rattle.plain.specs.Kinds.{kind_size, kind_word};
 ghost use Rattle.plain.specs.Words.{others, fits, Elected, BlockCorrected, BlockStripped};
 
 use crate::Kind;

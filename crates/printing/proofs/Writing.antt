@@ -1,20 +1,6 @@
 -- One turn of the writing of a list. Assumes nothing.
-use Rattle.std.proofs.Common.{◌≡◌, ℕ, ◌+◌, ◌<◌, ◌≤◌, List, ◌∷◌, ◌++◌, length, get_or, take, decimal, sym, ap, ◌∙◌, append_assoc, zero, suc, ◌-◌, arith}
-use Rattle.std.specs.List.{flat_map}
-use Rattle.std.proofs.lemmas.List.{take_all, take_more, flat_map_more}
+use Rattle.std.proofs.Common.{◌≡◌, ℕ, ◌≤◌, List, ◌++◌, ap, ◌∙◌, append_assoc, zero, suc, ◌-◌, arith}
 use Rattle.code.specs.Numbers.{joined_to}
-use Rattle.printing.specs.Texts.{spaced, listed}
-
--- a symbol more
-pub symbol_more : (front : List ℕ) {sofar next : List ℕ} (xs : List ℕ) (i : ℕ) → i < length xs → sofar ≡ front ++ flat_map spaced (take i xs) → next ≡ sofar ++ spaced (get_or xs i 0) → next ≡ front ++ flat_map spaced (take (i + 1) xs)
-symbol_more front xs i h was is =
-    is ∙ ap (λ s. s ++ spaced (get_or xs i 0)) was ∙ flat_map_more spaced front (take i xs) (get_or xs i 0)
-    ∙ ap (λ ys. front ++ flat_map spaced ys) (sym (take_more xs i 0 h))
-
--- the first symbol, and then all others
-pub symbols_whole : {begun all ws : List ℕ} (x : ℕ) (xs : List ℕ) (i : ℕ) → length xs ≤ i → ws ≡ x ∷ xs → begun ≡ decimal x → all ≡ begun ++ flat_map spaced (take i xs) → all ≡ listed ws
-symbols_whole x xs i h split was is =
-    is ∙ ap (λ s. s ++ flat_map spaced (take i xs)) was ∙ ap (λ ys. decimal x ++ flat_map spaced ys) (take_all i xs h) ∙ sym (ap listed split)
 
 -- part i after those below it
 pub part_more : (front : List ℕ) {sofar next : List ℕ} (f : ℕ → List ℕ) (i k : ℕ) → 1 ≤ i → i ≡ k → sofar ≡ front ++ joined_to f (i - 1) → next ≡ sofar ++ f i → next ≡ front ++ joined_to f k

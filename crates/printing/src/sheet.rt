@@ -1,4 +1,7 @@
 // The lines of a parameter sheet for a chain and for a code, each after a newline.
+//
+// That a code has no flaw stands in the clauses of what `code_lines` calls once it has asked for it: a struct that kept the fact
+// would be made there to be taken apart.
 ghost use Rattle.std.specs.Prelude.{◌≡◌, ℕ, ◌≤◌, ◌++◌, List, IfOk, OnOk, None, string_bytes};
 ghost use Rattle.chain.specs.Meaning.{Level};
 ghost use Rattle.code.specs.Held.{meant};
@@ -10,7 +13,7 @@ use code::Code;
 use refusal::Refusal;
 use std::alloc::{AllocError, Global};
 
-// Adds part 1 to part n.
+// Adds the parts 1 to n to the text.
 fn push_parts<F: Fn(usize) -> Result<String, AllocError>>(
     text: &mut String,
     n: usize,
@@ -90,7 +93,7 @@ fn details<C: Chain>(heap: Global, code: &Code<C>) -> Result<String, AllocError>
     Ok(text)
 }
 
-// The flaw of a code, and without one its matrix and its numbers.
+// The flaw of a code, printed as its number, and without one its matrix and its numbers.
 pub fn code_lines<C: Chain>(heap: Global, code: &Code<C>) -> Result<String, AllocError>
     ensures { IfOk result (λ s. string_bytes s ≡ lines_of_code (meant C.Chain.meaning code.now)) }
 {

@@ -1,5 +1,5 @@
 -- Why the decoder's answers are right. Assumes nothing.
-use Rattle.std.proofs.Common.{◌≡◌, ℕ, ◌+◌, ◌<◌, ◌≤◌, Some, None, Option, T, eqb, List, [], ◌∷◌, ◌++◌, length, take, drop, set, replicate, sym, refl, ap, ◌∙◌, subst, ap₂, arith, length-drop, length-take}
+use Rattle.std.proofs.Common.{◌≡◌, ℕ, ◌+◌, ◌<◌, ◌≤◌, Some, None, Option, T, eqb, List, [], ◌∷◌, ◌++◌, length, take, drop, set, sym, refl, ap, ◌∙◌, subst, ap₂, arith, length-drop, length-take}
 use Rattle.std.proofs.lemmas.List.{take_more_set, length-append}
 use Rattle.std.proofs.ByRecursion.{All-take, All-drop, All-append}
 use Rattle.field.specs.Meaning.{Meaning, IsField}
@@ -7,8 +7,7 @@ use Rattle.field.specs.Places.{distance}
 use Rattle.field.specs.Words.{symbols}
 use Rattle.field.proofs.Laws.{product_zero, one_product}
 use Rattle.field.proofs.Metric.{eqb_tells, distance_zero}
-use Rattle.field.proofs.Unique.{one_small, zero_small}
-use Rattle.field.proofs.Vectors.{symbols_replicate}
+use Rattle.field.proofs.Unique.{one_small}
 use Rattle.algebra.specs.Correction.{Agrees, locator_rows, message_rows}
 use Rattle.algebra.specs.FieldOn.{Ops}
 use Rattle.algebra.specs.Polynomials.{value, values, monic}
@@ -28,9 +27,6 @@ with_one F xs t h = take_more_set xs t 1 h
 
 pub monic_symbols : (F : Meaning) (laws : IsField F) (xs : List ℕ) → Symbols F xs → Symbols F (monic (numbers F) xs)
 monic_symbols F laws xs s = All-append (λ x. x < F.q) xs (1 ∷ []) s (one_small laws, tt)
-
-pub zeros_symbols : (F : Meaning) (laws : IsField F) (k n : ℕ) → Symbols F (take k (replicate n 0))
-zeros_symbols F laws k n = All-take (λ x. x < F.q) k (replicate n 0) (all_symbols F _ (symbols_replicate F.q n 0 (zero_small laws)))
 
 module _ (F : Meaning) (laws : IsField F) where
   abbrev N : Ops ℕ

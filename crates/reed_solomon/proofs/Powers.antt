@@ -27,9 +27,6 @@ module _ {F : Meaning} (laws : IsField F) where
     pub next : F.product p (power N x (total - i)) ≡ F.product a (power N x total)
     pub symbol : p < F.q
 
-  pub written_none : (out : List ℕ) (total a x : ℕ) → a < F.q → Written out total a x 0 a
-  written_none out total a x h = let same : total - 0 ≡ total = omega arith in record { listed = ap (powers_from N a x) same; next = ap (λ k. F.product a (power N x k)) same; symbol = h }
-
   pub written_more : (out : List ℕ) (total a x i p r : ℕ) → i < length out → length out ≡ total → x < F.q → r ≡ product_or_0 F p x → Written out total a x i p → Written (set out i p) total a x (i + 1) r
   written_more out total a x i p r h long hx e w =
       let left : total - i ≡ suc (total - (i + 1)) = omega arith in

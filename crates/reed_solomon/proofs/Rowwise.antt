@@ -1,5 +1,5 @@
 -- Rows in one list: the first row and the others, and what an exchange of rows keeps. Assumes nothing.
-use Rattle.std.proofs.Common.{false, eqb, T, ◌≡◌, ℕ, zero, suc, ◌+◌, ◌-◌, ◌*◌, ◌<◌, ◌≤◌, List, [], ◌∷◌, ◌++◌, map, length, get_or, take, drop, sym, refl, ap, ◌∙◌, subst, ap₂, inl, inr, suc-mul, mul-le-mul, add-one, arith}
+use Rattle.std.proofs.Common.{false, eqb, T, ◌≡◌, ℕ, zero, suc, ◌+◌, ◌-◌, ◌*◌, ◌<◌, ◌≤◌, List, [], ◌∷◌, ◌++◌, map, length, get_or, take, drop, sym, refl, ap, ◌∙◌, subst, ap₂, inl, inr, suc-mul, add-one, arith}
 use borrow.Rule.Slice.PartMut.{put_mid, post_of}
 use Rattle.std.specs.List.{AllByRecursion}
 use Rattle.std.proofs.lemmas.List.{take_at, drop_at, get_or-take, take_all, drop_all, append-nil, length-take-le, length-drop, length-append, take_rest}
@@ -131,10 +131,6 @@ split_rows w n rows first others some parts long =
     ∙ rows_first 0 w n (first ++ others) some
     ∙ ap₂ (λ (t : List ℕ) d. t ∷ rows_from 0 w (n - 1) d) (take_at first others w long) (drop_at first others w long)
     ∙ ap (λ k. first ∷ rows_from 0 k (n - 1) others) (sym long)
-
--- a product of two small numbers
-pub product_most : (m w : ℕ) → m ≤ 32 → w ≤ 33 → m * w ≤ 1056
-product_most m w hm hw = mul-le-mul hm hw
 
 -- the rows of the system are written one after another
 module _ (F : Meaning) (row : ℕ → ℕ → List ℕ) (w k x : ℕ) (rows row' rest' ys : List ℕ) (some : length ys ≡ 0 → ⊥) (long : length rows ≡ length ys * w) (long' : length row' ≡ w) (past : length (row' ++ drop w rows) - w ≤ k) where

@@ -21,6 +21,7 @@ trait Equation {
 
     ghost row_at: { Self → Meaning → ℕ → ℕ → List ℕ };
 
+    // All four stay parameters, since it is called at one place.
     fn write_row<F: Field>(&self, f: &F, row: &mut [u8], x: u8, y: u8)
         requires fits { fits self.now (F.Field.meaning f.now) }
         requires long { length row.old ≡ unknowns self.now + 1 }
@@ -113,16 +114,15 @@ fn write_rows<F: Field, E: Equation>(
     write_rows(f, equation, &mut rows[w..], w, x + 1, &ys[1..]);
 }
 
-// Solves a system of at least one row.
-fn solve<F: Field>(f: &F, rows: &mut [u8], count: usize, w: usize, xs: &mut [u8]) -> Option<()>
+// Solves a system of `count` rows, at least one.
+fn solve<F: Field>(f: &F, rows: &mut [u8], count: usize, xs: &mut [u8]) -> Option<()>
     requires some { 1 ≤ count }
-    requires width { w ≡ length xs.old + 1 }
-    requires long { length rows.old ≡ count * w }
-    requires rows { AllByRecursion (Symbols (F.Field.meaning f.now)) (rows_from 0 w count rows.old) }
+    requires long { length rows.old ≡ count * (length xs.old + 1) }
+    requires rows { AllByRecursion (Symbols (F.Field.meaning f.now)) (rows_from 0 (length xs.old + 1) count rows.old) }
     requires unknowns { Symbols (F.Field.meaning f.now) xs.old }
-    ensures { Outcome (F.Field.meaning f.now) (rows_from 0 w count rows.old) (length xs.old) result xs.new }
+    ensures { Outcome (F.Field.meaning f.now) (rows_from 0 (length xs.old + 1) count rows.old) (length xs.old) result xs.new }
 {
-    let (first, others) = rows.split_at_mut(w);
+    let (first, others) = rows.split_at_mut(xs.len() + 1);
     solve_from(f, first, others, count - 1, 0, xs)
 }
 
@@ -144,7 +144,7 @@ impl<'a, F: Field> Received<'a, F> {
         let w = xs.len() + 1;
         let rows = &mut scratch[..self.symbols.len() * w];
         write_rows(self.field, equation, rows, w, 0, self.symbols);
-        solve(self.field, rows, self.symbols.len(), w, xs)
+        solve(self.field, rows, self.symbols.len(), xs)
     }
 
     // Solves for E and N: first the t lower coefficients of E, then those of N.

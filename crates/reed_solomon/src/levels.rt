@@ -24,10 +24,11 @@ impl<F: Field> ReedSolomon<F> {
         }
     }
 
-    // The chain, if it has no flaw.
+    // The chain, if it has no flaw. By the chain's own test: over the trait's `flaw` the answer would not tell what that test found.
     pub(crate) fn checked(&self) -> Result<&Self, Refusal>
         ensures { MatchResult result (λ c. (c.now ≡ self.now) × (flaw (F.Field.meaning self.now.field) self.now.m self.now.sizes ≡ None)) (λ r. flaw (F.Field.meaning self.now.field) self.now.m self.now.sizes ≡ Some r) }
     {
+        // The arms say what the flaw is, which a closure handed to `map_or` would not know.
         match self.find_flaw() {
             None => Ok(self),
             Some(flaw) => Err(flaw),
@@ -47,6 +48,7 @@ impl<F: Field> ReedSolomon<F> {
 fn are_falling(m: usize, sizes: &[u8]) -> bool
     ensures { result ≡ falling m sizes.now }
 {
+    // A loop, since each size is held against the one before it: `try_fold` would carry that one in an `Option`, and say no more.
     let mut most = m;
     for size in sizes {
         let size = usize::from(*size);

@@ -5,7 +5,7 @@ ghost use Rattle.std.specs.Prelude.{◌≡◌};
 ghost use Rattle.reed_solomon.specs.Code.{reed_solomon};
 ghost use Rattle.reed_solomon.specs.Lawfulness.{chain_lawful};
 
-use chain::{Chain, LevelNumbers};
+use chain::{Chain, LevelNumbers, SCRATCH_BYTES};
 use field::{Field, are_symbols};
 use refusal::Refusal;
 
@@ -95,7 +95,7 @@ impl<F: Field> Chain for ReedSolomon<F> {
         if block.len() != self.m || !are_symbols(&self.field, block) {
             return Err(Refusal::BadArgument);
         }
-        if scratch.len() < 4096 {
+        if scratch.len() < SCRATCH_BYTES {
             return Err(Refusal::ShortScratch);
         }
         let mut buffer = [0; 32];

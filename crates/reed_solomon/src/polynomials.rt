@@ -12,6 +12,7 @@ pub(crate) fn write_word<F: Field>(f: &F, message: &[u8], out: &mut [u8])
     ensures { out.new ≡ rs_word (F.Field.meaning f.now) (length out.old) message.now }
 {
     for (i, y) in out.iter_mut().enumerate() {
+        // There are no more points than symbols, so `i` fits.
         *y = value(f, i as u8, message);
     }
 }

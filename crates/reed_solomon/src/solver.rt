@@ -1,8 +1,9 @@
 // Linear equations over any field, solved in place. A row holds the coefficients and then the right-hand side.
 //
 // The rows are passed over by recursion, since a loop over `chunks_exact_mut` leaves open what they hold after it. Their number
-// goes beside them, since only a division of the lengths at each step would tell it.
-ghost use Rattle.std.specs.Prelude.{◌≡◌, ◌+◌, ◌*◌, ◌<◌, ◌≤◌, true, false, ◌∷◌, map, length, drop, ◌≢◌, slice_index, zip};
+// goes beside them, since only a division of the lengths at each step would tell it. What a row holds stands in the clauses, since the rows
+// are written.
+ghost use Rattle.std.specs.Prelude.{◌≡◌, ◌+◌, ◌*◌, ◌<◌, true, false, ◌∷◌, map, length, drop, ◌≢◌, slice_index, zip};
 ghost use Rattle.std.specs.List.{AllByRecursion, fold};
 ghost use Rattle.field.specs.Words.{sum_or_0, product_or_0};
 ghost use Rattle.field.specs.Meaning.{inverse_of, opposite_of};
@@ -13,8 +14,8 @@ ghost use Rattle.reed_solomon.specs.Rows.{rows_from, Exchanged, Outcome};
 
 use field::{Field, add, add_multiple, invert, multiply, negate};
 
-// Exchanges `first` for the first row whose entry in column c is not 0, itself among them; says whether there is one, which is a
-// question's answer and no value's.
+// Exchanges `first` for the first row whose entry in column c is not 0, itself among them; says whether there is one. The
+// entry stands in `first` then, so an `Option` of it would say it twice.
 fn bring(first: &mut [u8], others: &mut [u8], count: usize, c: usize) -> bool
     requires column { c < length first.old }
     requires long { length others.old ≡ count * length first.old }

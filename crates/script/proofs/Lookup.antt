@@ -20,7 +20,7 @@ name_at : (r : Option (Bor (Bor (List ℕ) × Name))) → option_map (λ y. y.no
 name_at None = refl
 name_at (Some y) = refl
 
-pub spelled-find : (word : List ℕ) (table : List (Bor (List ℕ) × Name)) (r : Option (Bor (Bor (List ℕ) × Name))) → map entry table ≡ names → option_map (λ y. y.now) r ≡ find (λ e. bytes_eq e.0.now word) table → option_map (λ y. y.now.1) r ≡ spelled word
+pub spelled_find : (word : List ℕ) (table : List (Bor (List ℕ) × Name)) (r : Option (Bor (Bor (List ℕ) × Name))) → map entry table ≡ names → option_map (λ y. y.now) r ≡ find (λ e. bytes_eq e.0.now word) table → option_map (λ y. y.now.1) r ≡ spelled word
 unfolding spelled
-spelled-find word table r is found =
+spelled_find word table r is found =
     name_at r ∙ ap (option_map (λ e. e.1)) found ∙ find_entry word table ∙ ap (λ t. option_map (λ e. e.1) (find (λ e. bytes_eq e.0 word) t)) is

@@ -46,7 +46,7 @@ enum Name {
     Scratch,
 }
 
-// A `match` on the spellings was tried: it goes byte by byte, and leaves a hundred goals.
+// A `match` on the spellings was tried: it goes byte by byte, and leaves some hundred goals.
 const NAMES: [(&[u8], Name); 14] = [
     (b"field", Name::Field),
     (b"sum", Name::Sum),

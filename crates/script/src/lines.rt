@@ -8,6 +8,7 @@ use crate::commands::{Command, command_in};
 use crate::words::words_of;
 use std::alloc::{AllocError, Global};
 
+// Three names, where an `Option` of an `Option` would say the same with none.
 #[derive(PartialEq, Eq, Debug, Drop)]
 pub enum Line {
     // Nothing but white space, or a comment.

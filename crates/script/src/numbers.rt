@@ -9,6 +9,7 @@ pub fn number_of(word: &[u8]) -> Option<u32>
     if word.is_empty() {
         return None;
     }
+    // A loop with `?`, which `try_fold` would have in a closure.
     let mut value: u32 = 0;
     for b in word {
         if !b.is_ascii_digit() {

@@ -1,7 +1,7 @@
 -- The laws of GF(4) and the rule of its table, by computed tests. Assumes nothing.
 use Rattle.std.specs.Prelude.{◌≡◌, ℕ, ◌<◌, [], nat_eq, slice_index, slice_index_or}
 use Rattle.std.proofs.Common.{eqb→eq}
-use Rattle.field.specs.Meaning.{IsField, inverse_of}
+use Rattle.field.specs.Meaning.{IsField, inverse_of, opposite_of}
 use Rattle.field.proofs.Tests.{each_at, each²_at}
 use Rattle.field.proofs.Finite.{field_by_tests}
 use Rattle.supplied.specs.declared.TheConstants.{PRODUCTS}
@@ -33,3 +33,6 @@ product_rule a b ha hb = eqb→eq _ _ (each²_at (λ a b. nat_eq (slice_index (s
 pub inverse_rule : (a : ℕ) → a < 4 → slice_index (slice_index_or PRODUCTS a []) a ≡ inverse_of four a
 unfolding product
 inverse_rule a h = eqb→eq _ _ (each_at (λ a. nat_eq (slice_index (slice_index_or PRODUCTS a []) a) (inverse_of four a)) 4 tt a h)
+
+pub opposite_rule : (a : ℕ) → a < 4 → a ≡ opposite_of four a
+opposite_rule a h = eqb→eq _ _ (each_at (λ a. nat_eq a (opposite_of four a)) 4 tt a h)

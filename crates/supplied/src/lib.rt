@@ -1,7 +1,6 @@
 // A field and a chain written as an outside supplier would: they rest on the crates of the traits alone, and share no code with GF(16). GF(4), with its whole product as a table.
 #![tactic(auto)]
 
-ghost use Rattle.std.specs.Prelude.{◌≡◌};
 ghost use Rattle.supplied.specs.Quadratic.{four};
 ghost use Rattle.supplied.specs.Table.{is_field};
 
@@ -34,6 +33,8 @@ impl Field for Gf4 {
         Ok(a ^ b)
     }
 
+    // Every symbol is its own opposite.
+    #[tactic(auto, using(crate::specs::Table::opposite_rule))]
     fn opposite(&self, a: u8) -> Result<u8, Refusal> {
         if a >= 4 {
             return Err(Refusal::BadArgument);
@@ -49,8 +50,8 @@ impl Field for Gf4 {
         Ok(PRODUCTS[usize::from(a)][usize::from(b)])
     }
 
-    #[tactic(auto, using(crate::specs::Table::inverse_rule))]
     // The square: the cube of every symbol but 0 is 1.
+    #[tactic(auto, using(crate::specs::Table::inverse_rule))]
     fn inverse(&self, a: u8) -> Result<u8, Refusal> {
         if a == 0 || a >= 4 {
             return Err(Refusal::BadArgument);

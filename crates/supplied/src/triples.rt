@@ -6,7 +6,7 @@ ghost use Rattle.supplied.specs.Triples.{triples, word};
 ghost use Rattle.supplied.specs.Lawful.{is_chain};
 
 use crate::Gf4;
-use chain::Chain;
+use chain::{Chain, SCRATCH_BYTES};
 use field::{Field, are_symbols, distance};
 use refusal::Refusal;
 
@@ -88,7 +88,7 @@ impl Chain for Triples {
         if level != 1 || block.len() != 3 || !are_symbols(&self.field, block) {
             return Err(Refusal::BadArgument);
         }
-        if scratch.len() < 4096 {
+        if scratch.len() < SCRATCH_BYTES {
             return Err(Refusal::ShortScratch);
         }
         let x = nearest(block, 1).ok_or(Refusal::NoLevelWord)?;

@@ -1,4 +1,6 @@
 // The test whether a matrix is non-singular by columns, by elimination on copies of it.
+//
+// That its entries are symbols stands in the clauses: a matrix knows no field, and a struct of both would be made anew at each step.
 ghost use Rattle.std.specs.Prelude.{◌≡◌, ℕ, ◌-◌, ◌<◌, ◌≤◌, true, false, T, [], ◌++◌, length, replicate, ◌≢◌, slice_index, slice_index_or};
 ghost use Rattle.field.specs.Words.{symbols};
 ghost use Rattle.code.specs.Columns.{nonsingular};

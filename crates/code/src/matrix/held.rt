@@ -11,7 +11,8 @@ use crate::matrix::Matrix;
 use field::{Field, add_scaled, are_symbols};
 
 impl Matrix {
-    // Holds the entries, which stand row by row; no rows if there are too many, or not as many as that asks for.
+    // Holds the entries, which stand row by row; no rows if there are too many, or not as many as that asks for. No `From`, which
+    // takes one value, and no `TryFrom`, since making a code is never refused.
     pub fn of(height: usize, width: usize, entries: &[u8]) -> Matrix
         ensures { held result ≡ matrix_of height width entries.now }
     {

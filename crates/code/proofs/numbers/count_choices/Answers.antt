@@ -1,7 +1,7 @@
 -- What is left to show of `count_choices`.
 use Rattle.std.proofs.Common.{◌≡◌, ◌-◌, ◌*◌, ◌≤◌, sym, ap, ◌∙◌, subst, arith}
 use Rattle.chain.specs.Answers.{told}
-use Rattle.code.proofs.Sums.{falling_small, falling_more}
+use Rattle.code.proofs.Sums.{falling_small}
 use Rattle.code.proofs.numbers.count_choices.Goals as goal
 
 pub overflow_mul-product : goal.overflow_mul-product
@@ -13,6 +13,3 @@ overflow_mul-product g c =
     let small : c.loop-i.product * (l - i) ≤ 16777216
     = subst (λ x. x * (l - i) ≤ 16777216) (sym c.loop-i.invariant) (falling_small l i c.requires.small (omega (arith, c.requires.wide, c.requires.small, c.loop-i-test.true, told_is))) in
     omega arith
-
-pub loop-i-preserved : goal.loop-i-preserved
-loop-i-preserved g c = falling_more c.args.l c.loop-i.i c.loop-i.product c.loop-i.invariant

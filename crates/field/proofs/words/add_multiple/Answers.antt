@@ -1,7 +1,7 @@
 use Rattle.std.proofs.Common.{◌+◌, ◌<◌, ◌≤◌, length, sym, refl, ap, ◌∙◌, arith, ◌++◌, take, drop}
 use Rattle.std.proofs.lemmas.List.{set-get_or}
 use Rattle.field.specs.Words.{sum_or_0, product_or_0, plus_scaled_or_0}
-use Rattle.field.proofs.Folds.{place_written, rest_stays, all_written}
+use Rattle.field.proofs.Folds.{place_written, rest_stays}
 use Rattle.field.proofs.WordLaws.{plus_scaled_or_0_nil}
 use Rattle.field.proofs.words.add_multiple.Goals as goal
 use Rattle.field.proofs.words.add_multiple.Goals.{then-i-v, else-i-v}
@@ -26,9 +26,3 @@ loop-i-preserved g c =
           ∙ sym (rest_stays G (λ x y. x) out v i (plus_scaled_or_0_nil F c.args.a) past)
           ∙ c.loop-i.invariant
     ]
-
-pub returns : goal.returns
-returns g c =
-    let F = g.F.Field.meaning c.args.f.now in
-    let past : length c.loop-i.out ≤ c.loop-i.i = omega (arith, c.loop-i.auto.out, c.loop-i-test.false) in
-    sym (all_written (plus_scaled_or_0 F c.args.a) (λ x y. x) c.loop-i.out c.args.v.now c.loop-i.i (λ _. refl) past) ∙ c.loop-i.invariant

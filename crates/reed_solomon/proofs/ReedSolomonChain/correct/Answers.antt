@@ -14,9 +14,9 @@ returns g c =
     let self = c.args.self.now in
     let scratch = c.args.scratch.now in
     subst (λ b'. Corrects (reed_solomon (g.F.Field.meaning self.field) self.m self.sizes) c.args.level c.args.block.now scratch (Ok tt) b' c.nearest_word.new.scratch) (sym c.copy_from_slice.ensures.after)
-    (corrected (g.F.Field.meaning self.field) (g.met.F.Field.lawful self.field) self.m self.sizes (sym c.in_ok-checked.ensures.1) c.args.level c.in_ok-k.k c.in_ok-k.ensures c.args.block.now c.if-block-self.false (subst T c.if-not-are_symbols.ensures tt) scratch c.nearest_word.new.scratch c.nearest_word.new.word c.if-scratch-lt4096.false c.in-Some.ensures)
+    (corrected (g.F.Field.meaning self.field) (g.met.F.Field.lawful self.field) self.m self.sizes (sym c.in_ok-checked.ensures.1) c.args.level c.in_ok-k.k c.in_ok-k.ensures c.args.block.now c.if-block-self.false (subst T c.if-not-are_symbols.ensures tt) scratch c.nearest_word.new.scratch c.nearest_word.new.word c.if-scratch-lt-SCRATCH_BYTES.false c.in-Some.ensures)
 
 pub returns-in_default : goal.returns-in_default
 returns-in_default g c =
     let self = c.args.self.now in
-    uncorrected (g.F.Field.meaning self.field) (g.met.F.Field.lawful self.field) self.m self.sizes (sym c.in_ok-checked.ensures.1) c.args.level c.in_ok-k.k c.in_ok-k.ensures c.args.block.now c.if-block-self.false (subst T c.if-not-are_symbols.ensures tt) c.args.scratch.now c.nearest_word.new.scratch c.nearest_word.new.word c.if-scratch-lt4096.false c.in_default.ensures
+    uncorrected (g.F.Field.meaning self.field) (g.met.F.Field.lawful self.field) self.m self.sizes (sym c.in_ok-checked.ensures.1) c.args.level c.in_ok-k.k c.in_ok-k.ensures c.args.block.now c.if-block-self.false (subst T c.if-not-are_symbols.ensures tt) c.args.scratch.now c.nearest_word.new.scratch c.nearest_word.new.word c.if-scratch-lt-SCRATCH_BYTES.false c.in_default.ensures

@@ -2,7 +2,7 @@ use Rattle.std.proofs.Common.{◌≡◌, ◌-◌, ◌<◌, length, take, drop, s
 use Rattle.std.proofs.ByRecursion.{All-drop}
 use Rattle.std.proofs.lemmas.List.{length-take-le, take_rest}
 use Rattle.algebra.specs.Symbols.{Symbols}
-use Rattle.reed_solomon.proofs.Rowwise.{not_empty, first_fits, written_fits, length_rest, filled, filled_all, filled_rest}
+use Rattle.reed_solomon.proofs.Rowwise.{not_empty, first_fits, written_fits, length_rest, filled_rest}
 use Rattle.reed_solomon.proofs.equations.+write_rows.Goals as goal
 
 pub slice_bounds-write_row-end : goal.slice_bounds-write_row-end
@@ -47,16 +47,3 @@ write_rows-requires g t c κs within =
         ),
       ),
     )
-
-pub returns : goal.returns
-returns g t c =
-    let F = g.F.Field.meaning c.args.f.now in
-    let ys = c.args.ys.now in
-    let rows = c.args.rows.now in
-    let row = g.E.Equation.row_at c.args.equation.now F in
-    let some = not_empty _ c.if-is_empty.ensures in
-    let long : length c.write_row.new.row ≡ c.args.w = c.write_row.auto.row ∙ length-take-le _ rows (first_fits _ _ _ some c.requires.long) in
-    record {
-      symbols = filled_all F row c.args.w _ c.args.x rows c.write_row.new.row c.write_rows.new.rows ys some c.requires.long long (omega arith) (Symbols F) c.write_row.ensures.symbols c.write_rows.ensures.symbols;
-      written = filled F row c.args.w _ c.args.x rows c.write_row.new.row c.write_rows.new.rows ys some c.requires.long long (omega arith) c.write_row.ensures.written c.write_rows.ensures.written;
-    }

@@ -1,19 +1,6 @@
-use Rattle.std.proofs.Common.{◌≡◌, sym, arith}
-use Rattle.std.proofs.lemmas.List.{length-take-le}
-use Rattle.reed_solomon.proofs.Rowwise.{first_fits, exchanged_here, found_here, exchanged_later, missing_later}
+use Rattle.std.proofs.Common.{◌≡◌, arith}
+use Rattle.reed_solomon.proofs.Rowwise.{exchanged_here, found_here, exchanged_later, missing_later}
 use Rattle.reed_solomon.proofs.solver.+bring.Goals as goal
-
-pub bounds-others-c : goal.bounds-others-c
-bounds-others-c t c = omega (arith, c.requires.column, first_fits _ _ _ c.if-count-eq0.false c.requires.long)
-
-pub slice_bounds-swap_with_slice-end : goal.slice_bounds-swap_with_slice-end
-slice_bounds-swap_with_slice-end t c = first_fits _ _ _ c.if-count-eq0.false c.requires.long
-
-pub slice_bounds-swap_with_slice-end-then-others-c-ne0 : goal.slice_bounds-swap_with_slice-end-then-others-c-ne0
-slice_bounds-swap_with_slice-end-then-others-c-ne0 t c = sym (length-take-le _ c.args.others.now (first_fits _ _ _ c.if-count-eq0.false c.requires.long))
-
-pub swap_with_slice-requires : goal.swap_with_slice-requires
-swap_with_slice-requires t c = sym (length-take-le _ c.args.others.now (first_fits _ _ _ c.if-count-eq0.false c.requires.long))
 
 pub returns-then-others-c-ne0 : goal.returns-then-others-c-ne0
 returns-then-others-c-ne0 t c =
@@ -25,12 +12,6 @@ returns-then-others-c-ne0 t c =
       found = λ _. found_here first others swap.new.self swap.new.other c.args.count c.args.c c.if-count-eq0.false swap.ensures.after swap.ensures.other_after c.requires.column c.if-others-c-ne0.true;
       missing = λ e. absurd (let z : ◌≡◌ {A = Prim.Native.Nat.ℕ} 0 1 = cc in omega arith);
     }
-
-pub slice_bounds-bring-count : goal.slice_bounds-bring-count
-slice_bounds-bring-count t c = first_fits _ _ _ c.if-count-eq0.false c.requires.long
-
-pub slice_bounds-bring-start : goal.slice_bounds-bring-start
-slice_bounds-bring-start t c = first_fits _ _ _ c.if-count-eq0.false c.requires.long
 
 pub returns : goal.returns
 returns t c =

@@ -1,15 +1,9 @@
-use Rattle.std.proofs.Common.{◌≡◌, length, drop, sym, ◌∙◌, arith}
+use Rattle.std.proofs.Common.{◌≡◌, length, drop, ◌∙◌, arith}
 use Rattle.std.proofs.lemmas.List.{length-take-le}
 use Rattle.algebra.specs.Symbols.{numbers, Symbols}
 use Rattle.algebra.specs.Systems.{cleared}
-use Rattle.reed_solomon.proofs.Rowwise.{first_fits, written_fits, each_row, rest_length, rest_all, first_all}
+use Rattle.reed_solomon.proofs.Rowwise.{first_fits, each_row, rest_length, rest_all, first_all}
 use Rattle.reed_solomon.proofs.solver.+clear.Goals as goal
-
-pub slice_bounds-clear_row-end : goal.slice_bounds-clear_row-end
-slice_bounds-clear_row-end g t c = first_fits _ _ _ c.if-count-eq0.false c.requires.long
-
-pub slice_bounds-clear_row-end-2 : goal.slice_bounds-clear_row-end-2
-slice_bounds-clear_row-end-2 g t c = sym (length-take-le _ c.args.rows.now (first_fits _ _ _ c.if-count-eq0.false c.requires.long))
 
 pub clear_row-requires : goal.clear_row-requires
 clear_row-requires g t c = record {
@@ -19,12 +13,6 @@ clear_row-requires g t c = record {
   pivot = c.requires.pivot;
   row = first_all (Symbols (g.F.Field.meaning c.args.f.now)) c.args.c _ c.args.count c.args.rows.now c.if-count-eq0.false c.requires.rows;
 }
-
-pub slice_bounds-clear-count : goal.slice_bounds-clear-count
-slice_bounds-clear-count g t c = let rows = c.args.rows.now in written_fits c.clear_row.new.row _ _ (c.clear_row.auto.row ∙ length-take-le _ rows (first_fits _ _ _ c.if-count-eq0.false c.requires.long))
-
-pub slice_bounds-clear-start : goal.slice_bounds-clear-start
-slice_bounds-clear-start g t c = let rows = c.args.rows.now in written_fits c.clear_row.new.row _ _ (c.clear_row.auto.row ∙ length-take-le _ rows (first_fits _ _ _ c.if-count-eq0.false c.requires.long))
 
 pub clear-requires : goal.clear-requires
 clear-requires g t c κs within =

@@ -5,7 +5,7 @@ use Rattle.field.proofs.Accepted.{inverse_or_0_is}
 use Rattle.algebra.specs.Symbols.{Symbols}
 use Rattle.algebra.proofs.Bridge.{inverse_below}
 use Rattle.reed_solomon.specs.Rows.{rows_from, Outcome}
-use Rattle.reed_solomon.proofs.Rowwise.{not_empty, first_fits, rest_long, length_rest}
+use Rattle.reed_solomon.proofs.Rowwise.{not_empty, rest_long, length_rest}
 use Rattle.reed_solomon.proofs.Solving.{drop_symbol}
 use Rattle.reed_solomon.proofs.Descent.{rest_symbols, row_symbols, first_symbols, others_symbols, next_symbols, no_unknowns, free_column, left_good, no_solution, rest_found, rest_free, solution}
 use Rattle.reed_solomon.proofs.solver.+solve_from.Goals as goal
@@ -67,11 +67,6 @@ clear-requires g t c =
       pivot = sf;
       rows = others_symbols F laws c.args.c _ _ c.args.count c.args.first.now c.args.others.now first' b.new.others b.auto.first c.if-not-found.ensures.rows c.requires.row c.requires.rows;
     }
-
-pub split_at_mut-row-requires : goal.split_at_mut-row-requires
-split_at_mut-row-requires g t c =
-    let b = c.bring-found in
-    first_fits c.args.count (length b.new.first) (length c.clear.new.rows) (λ e. omega (arith, c.if-count-gt0.true)) (c.clear.auto.rows ∙ b.auto.others ∙ c.requires.long ∙ ap (λ k. c.args.count * k) (sym b.auto.first))
 
 pub solve_from-requires-then-count-gt0 : goal.solve_from-requires-then-count-gt0
 solve_from-requires-then-count-gt0 g t c κs within =

@@ -1,8 +1,7 @@
 -- What is left to show of `add_row`.
-use Rattle.std.proofs.Common.{◌≡◌, arith}
 use Rattle.code.specs.Held.{held}
 use Rattle.code.specs.Meaning.{entry_at}
-use Rattle.code.proofs.Joined.{block_more, block_all}
+use Rattle.code.proofs.Joined.{block_more}
 use Rattle.code.proofs.matrix.Matrix.add_row.Goals as goal
 
 pub loop-j-preserved : goal.loop-j-preserved
@@ -10,10 +9,3 @@ loop-j-preserved g c =
     let a = c.args.self.now in
     block_more (g.F.Field.meaning c.args.f.now) (λ j. entry_at (held a) c.args.row j) c.args.word.now c.args.out.now a.width c.requires.entries c.requires.word c.requires.before c.requires.long
     c.loop-j.j c.entry-entry.result c.loop-j.out c.add_scaled.new.out c.loop-j-test.true c.loop-j.invariant c.entry-entry.ensures c.add_scaled.ensures.after
-
-pub returns : goal.returns
-returns g c =
-    let a = c.args.self.now in
-    let at_end : c.loop-j.j ≡ a.width = omega (arith, c.loop-j.auto.j-end, c.loop-j-test.false) in
-    block_all (g.F.Field.meaning c.args.f.now) (λ j. entry_at (held a) c.args.row j) c.args.word.now c.args.out.now a.width c.requires.entries c.requires.word c.requires.before c.requires.long
-    c.loop-j.j c.loop-j.out at_end c.loop-j.invariant

@@ -2,30 +2,12 @@ use Rattle.std.proofs.Common.{◌≡◌, ◌+◌, ◌-◌, ◌/◌, ◌<◌, Som
 use Rattle.field.specs.Places.{distance}
 use Rattle.std.proofs.ByRecursion.{All-take}
 use Rattle.std.proofs.lemmas.List.{length-take-le}
-use Rattle.algebra.specs.Symbols.{Symbols}
 use Rattle.reed_solomon.specs.Code.{points, rs_word}
 use Rattle.reed_solomon.specs.Rows.{Outcome, rows_with}
 use Rattle.reed_solomon.specs.Decoding.{Nearest}
-use Rattle.reed_solomon.proofs.Decoding.{with_one, monic_symbols, nearest_none, nearest_far, nearest_found}
+use Rattle.reed_solomon.proofs.Decoding.{with_one, nearest_none, nearest_far, nearest_found}
 use Rattle.reed_solomon.specs.Words.{all_symbols, symbols_all}
 use Rattle.reed_solomon.proofs.received.Received.find_word.Goals as goal
-
-pub find_message-requires : goal.find_message-requires
-find_message-requires g c =
-    let F = g.F.Field.meaning c.args.self.now.field.now in
-    let laws = g.met.F.Field.lawful c.args.self.now.field.now in
-    let b = c.args.self.now.symbols.now in
-    let k = length c.args.message.now in
-    let t = (length b - k) / 2 in
-    let xs = c.locate.new.xs in
-    let long : length xs ≡ t + (k + t) = c.locate.auto.xs ∙ c.requires.locator in
-    let within : t < length xs = omega (arith, long, c.requires.some) in
-    record {
-      few = omega (arith, c.requires.few, c.args.self.now.few);
-      room = omega (arith, c.locate.auto.scratch, c.requires.room);
-      locator = subst (Symbols F) (sym (with_one F xs t within)) (monic_symbols F laws (take t xs) (All-take (λ x. x < F.q) t xs c.in_ok-locate.ensures.0));
-      unknowns = c.requires.coefficients;
-    }
 
 pub returns-in_err-find_message : goal.returns-in_err-find_message
 returns-in_err-find_message g c =

@@ -1,10 +1,5 @@
-use Rattle.std.proofs.Common.{length, subst}
-use Rattle.reed_solomon.specs.Rows.{Outcome}
 use Rattle.reed_solomon.specs.Words.{all_symbols}
 use Rattle.reed_solomon.proofs.received.Received.solve_at_points.Goals as goal
 
 pub write_rows-requires-clause-symbols : goal.write_rows-requires-clause-symbols
 write_rows-requires-clause-symbols g c = all_symbols (g.F.Field.meaning c.args.self.now.field.now) c.args.self.now.symbols.now c.args.self.now.all
-
-pub returns : goal.returns
-returns g c = subst (λ z. Outcome (g.F.Field.meaning c.args.self.now.field.now) z (length c.args.xs.now) c.solve.result c.solve.new.xs) c.write_rows.ensures.written c.solve.ensures
