@@ -5,6 +5,7 @@ ghost use Rattle.std.specs.Prelude.{◌≡◌};
 ghost use Rattle.any_field.specs.Kinds.{meant};
 ghost use Rattle.plain.specs.Kinds.{plain as plain_of};
 ghost use Rattle.reed_solomon.specs.Code.{reed_solomon as reed_solomon_of};
+ghost use Rattle.chain.specs.Held.{held};
 ghost use Rattle.any_chain.specs.Kinds.{chain_meant};
 ghost use Rattle.any_field.specs.Inside.{meant_field};
 ghost use Rattle.plain.specs.Lawful.{is_lawful};
@@ -55,8 +56,8 @@ impl Chain for AnyChain {
 
     // the laws are those of the chain inside
     ghost lawful = { elim [
-      | Plain c ↦ is_lawful (meant_field c.field) c.m c.kinds
-      | ReedSolomon c ↦ chain_lawful (meant c.field) (meant_field c.field) c.m c.sizes
+      | Plain c ↦ is_lawful (meant_field c.field) c.m (held c.kinds)
+      | ReedSolomon c ↦ chain_lawful (meant c.field) (meant_field c.field) c.m (held c.sizes)
     ] };
 
     fn flaw(&self) -> Option<Refusal> {
@@ -93,5 +94,29 @@ impl Chain for AnyChain {
 
     fn strip(&self, level: usize, block: &[u8], out: &mut [u8]) -> Result<(), Refusal> {
         inside!(self, c => c.strip(level, block, out))
+    }
+}
+
+#[cfg(test)]
+mod tests {
+    use crate::AnyChain;
+    use any_field::AnyField;
+    use chain::Chain;
+    use std::test::Fail;
+
+    // That the sum fits is found from what a chain tells: no more than 32 symbols, and 4 levels.
+    fn symbols_and_levels(chain: &AnyChain) -> usize {
+        chain.length() + chain.levels()
+    }
+
+    #[test]
+    fn added_up(rt: HostRuntime) -> Result<(), Fail> {
+        let Ok(field) = AnyField::of_order(16) else {
+            assert!(rt; false);
+            return Ok(());
+        };
+        assert!(rt; symbols_and_levels(&AnyChain::plain(field, 16, &[0, 1, 2])) == 19);
+        assert!(rt; symbols_and_levels(&AnyChain::reed_solomon(field, 17, &[3])) == 0);
+        Ok(())
     }
 }

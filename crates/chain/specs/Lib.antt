@@ -3,5 +3,5 @@ pub mod Search
 pub mod Answers
 pub mod Follows
 pub mod LevelNumbers
+pub mod Held
 pub mod Calls
-pub mod Padded

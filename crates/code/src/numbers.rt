@@ -1,7 +1,7 @@
 // The numbers that a code tells. A code with a flaw tells 0.
 //
-// That the chain has no flaw, and that a level is there, stand in the clauses: each function has one caller, which has just asked
-// for it, so a struct that kept the fact would be made to be taken apart.
+// That the chain has no flaw, and that a level is there, stand in the clauses: each caller has just asked for it, so a struct that
+// kept the fact would be made to be taken apart.
 ghost use Rattle.std.specs.Prelude.{◌≡◌, ◌+◌, ◌-◌, ◌*◌, ◌≤◌, None};
 ghost use Rattle.chain.specs.Answers.{told};
 ghost use Rattle.chain.specs.Meaning.{Level};

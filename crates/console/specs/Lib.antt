@@ -1,3 +1,4 @@
 pub mod Printed
 pub mod Standing
 pub mod Answers
+pub mod Told

@@ -1,9 +1,11 @@
 // What the console answers, and how it prints it.
 ghost use Rattle.std.specs.Prelude.{◌≡◌, Some};
 ghost use Rattle.console.specs.Printed.{printed, printed_failure, printed_missing};
+ghost use Rattle.console.specs.Told.{unanswered};
 ghost use Rattle.console.specs.declared.answer.Failure.TheVariants.{Refused};
 ghost use Rattle.console.specs.declared.answer.Unanswered.TheVariants.{Failed, OutOfMemory};
 
+use printing::Untold;
 use refusal::Refusal;
 use std::alloc::AllocError;
 use std::fmt;
@@ -74,6 +76,17 @@ impl From<AllocError> for Unanswered {
 
     fn from(e: AllocError) -> Unanswered {
         Unanswered::OutOfMemory(e)
+    }
+}
+
+impl From<Untold> for Unanswered {
+    ghost from_gives = { λ e r. r ≡ unanswered e };
+
+    fn from(e: Untold) -> Unanswered {
+        match e {
+            Untold::Refused(refusal) => Unanswered::Failed(Failure::Refused(refusal)),
+            Untold::OutOfMemory(error) => Unanswered::OutOfMemory(error),
+        }
     }
 }
 

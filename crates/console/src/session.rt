@@ -7,6 +7,7 @@ ghost use Rattle.any_field.specs.Kinds.{of_order};
 ghost use Rattle.any_chain.specs.Kinds.{chain_meant};
 ghost use Rattle.code.specs.Meaning.{joining};
 ghost use Rattle.code.specs.Numbers.{code_flaw};
+ghost use Rattle.printing.specs.Told.{IfTold};
 ghost use Rattle.script.specs.Commands.{view, sheet, encode, code};
 ghost use Rattle.script.specs.Lines.{parsed};
 ghost use Rattle.console.specs.Answers.{Answers, IfAnswered, MakesBy, Prints, after, chain_made, kept, made_of, on, standing_after, text_on, told};
@@ -21,6 +22,7 @@ use any_field::AnyField;
 use chain::Chain;
 use code::Code;
 use field::Field;
+use printing::Untold;
 use script::{Command, Line, echo_of, parse};
 use std::alloc::{AllocError, Global};
 
@@ -90,16 +92,18 @@ impl Session {
                 sizes.as_slice(),
             )?),
             Command::Plain(m, kinds) => Ok(self.make_chain(AnyChain::plain, m, kinds.as_slice())?),
-            Command::EncodeLevel(level, message) => self.chain_text(|chain| printing::encode_level(
-                heap,
-                &chain,
-                usize::from(level),
-                message.as_slice(),
-            )),
+            Command::EncodeLevel(level, message) => self.chain_text(
+                |chain| printing::try_encode_level(
+                    heap,
+                    &chain,
+                    usize::from(level),
+                    message.as_slice(),
+                ),
+            ),
             Command::CorrectLevel(level, block) => {
                 // `usize` has no `From<u32>`.
                 let scratch = self.scratch as usize;
-                self.chain_text(|chain| printing::correct_level(
+                self.chain_text(|chain| printing::try_correct_level(
                     heap,
                     &chain,
                     usize::from(level),
@@ -107,7 +111,7 @@ impl Session {
                     scratch,
                 ))
             }
-            Command::StripLevel(level, block) => self.chain_text(|chain| printing::strip_level(
+            Command::StripLevel(level, block) => self.chain_text(|chain| printing::try_strip_level(
                 heap,
                 &chain,
                 usize::from(level),
@@ -176,12 +180,12 @@ impl Session {
     }
 
     // What a call of the standing chain shows.
-    fn chain_text<F: FnOnce(AnyChain) -> Result<String, AllocError>>(
+    fn chain_text<F: FnOnce(AnyChain) -> Result<String, Untold>>(
         &self,
         call: F,
     ) -> Result<Answer, Unanswered>
         requires { F.IsAlwaysCallable call }
-        ensures { (text : chains.Meaning → List ℕ) → ((x : AnyChain) (r : _) → F.post call x r → IfOk r (λ s. string_bytes s ≡ text (chain_meant x))) → IfAnswered result (λ a. printed a ≡ text_on ChainMissing (standing self.now).chain text) }
+        ensures { (text : chains.Meaning → List ℕ) → ((x : AnyChain) (r : _) → F.post call x r → IfTold string_bytes r (λ t. t ≡ text (chain_meant x))) → IfAnswered result (λ a. printed a ≡ text_on ChainMissing (standing self.now).chain text) }
     {
         Ok(Answer::Text(call(self.standing_chain()?)?))
     }
@@ -189,7 +193,7 @@ impl Session {
     fn encode(&self, heap: Global, message: &[u8]) -> Result<Answer, Unanswered>
         ensures { IfAnswered result (Answers (standing self.now) (encode message.now)) }
     {
-        let text = printing::encode(heap, &self.standing_code()?, message)?;
+        let text = printing::try_encode(heap, &self.standing_code()?, message)?;
         Ok(Answer::Text(text))
     }
 

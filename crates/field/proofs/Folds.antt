@@ -1,11 +1,15 @@
 -- What a chain of iterators computes, as the recursion of a definition. Assumes nothing.
-use Rattle.std.proofs.Common.{◌≡◌, ℕ, ◌+◌, ◌<◌, ◌≤◌, Bool, true, false, cond, not, eqb, List, [], ◌∷◌, ◌++◌, length, reverse, get_or, set, take, drop, sym, ap, ◌∙◌, ap₂, arith, zip, min, take-append-drop}
+use Rattle.std.proofs.Common.{◌≡◌, ℕ, ◌+◌, ◌<◌, ◌≤◌, Bool, true, false, cond, not, eqb, eqb→eq, T, subst, add-zero, List, [], ◌∷◌, ◌++◌, length, reverse, get_or, set, take, drop, sym, ap, ◌∙◌, ap₂, arith, zip, min, take-append-drop}
+use native.Mathlib.Decide.{dec_lt}
+use lib.Dec.{eqb_refl}
 use mathlib.Core.List.{reverse-cons}
 use Rattle.std.specs.Int.{abs_diff}
 use Rattle.std.specs.List.{count_by, fold}
-use Rattle.std.proofs.lemmas.List.{append_assoc, drop_all, drop_more, drop-set-lt, take_more_set}
-use Rattle.std.proofs.lemmas.List.Sums.{fold-append, sum_by-cons, count_by-le-length}
+use Rattle.std.proofs.lemmas.List.{append_assoc, drop_all, drop_more, drop-set-lt, take_all, take_more_set}
+use Rattle.std.proofs.lemmas.List.Sums.{fold-append, sum_by-cons, sum_by_more, count_by-le-length}
+use Rattle.std.proofs.lemmas.Slice.Zip.{length-zip, get_or-zip}
 use Rattle.field.specs.Places.{unless, distance}
+use Rattle.field.proofs.Tests.{true_is, is_false}
 
 -- from the last item on
 pub fold_back : {X Y : Type 0} (F : List X → Y) (h : X → Y → Y) (a : Y) → F [] ≡ a → ((x : X) (xs : List X) → F (x ∷ xs) ≡ h x (F xs)) → (xs : List X) → fold (λ v x. h x v) a (reverse xs) ≡ F xs
@@ -34,6 +38,35 @@ module _ (G : List ℕ → List ℕ → List ℕ) (h : ℕ → ℕ → ℕ) (out
 
   pub rest_stays : ((xs : List ℕ) → G xs [] ≡ xs) → length vs ≤ i → take i out ++ G (drop i out) (drop i vs) ≡ out
   rest_stays nil past = ap (λ d. take i out ++ G (drop i out) d) (drop_all i vs past) ∙ ap (λ d. take i out ++ d) (nil (drop i out)) ∙ take-append-drop i out
+
+  pub rest_done : ((xs : List ℕ) → G xs [] ≡ xs) → ((us : List ℕ) → G [] us ≡ []) → min (length out) (length vs) ≤ i → take i out ++ G (drop i out) (drop i vs) ≡ out
+  rest_done nil none past =
+      elim (dec_lt i (length vs)) [
+        | yes l ↦
+            let e : drop i out ≡ [] = drop_all i out (omega (arith, l, past)) in
+            ap (λ d. take i out ++ d) (ap (λ d. G d (drop i vs)) e ∙ none (drop i vs) ∙ sym e) ∙ take-append-drop i out
+        | no m ↦ rest_stays nil (omega (arith, m))
+      ]
+
+-- one place more of both words, where they differ or not, and all of them
+module _ (xs ys : List ℕ) (i : ℕ) (hx : i < length xs) (hy : i < length ys) where
+  counted_more : count_by (λ p. not (eqb p.0 p.1)) (take (i + 1) (zip xs ys)) ≡ count_by (λ p. not (eqb p.0 p.1)) (take i (zip xs ys)) + cond (not (eqb (get_or xs i 0) (get_or ys i 0))) 1 0
+  counted_more =
+      sum_by_more (λ p. cond (not (eqb p.0 p.1)) 1 0) (zip xs ys) i (0, 0) (omega (arith, length-zip xs ys))
+      ∙ ap (λ p. count_by (λ p. not (eqb p.0 p.1)) (take i (zip xs ys)) + cond (not (eqb p.0 p.1)) 1 0) (get_or-zip xs ys i (0, 0) hx hy)
+
+  pub counted_other : (get_or xs i 0 ≡ get_or ys i 0 → ⊥) → count_by (λ p. not (eqb p.0 p.1)) (take (i + 1) (zip xs ys)) ≡ count_by (λ p. not (eqb p.0 p.1)) (take i (zip xs ys)) + 1
+  counted_other other =
+      counted_more ∙ ap (λ b. count_by (λ p. not (eqb p.0 p.1)) (take i (zip xs ys)) + cond (not b) 1 0) (is_false _ (λ t. other (eqb→eq _ _ t)))
+
+  pub counted_same : get_or xs i 0 ≡ get_or ys i 0 → count_by (λ p. not (eqb p.0 p.1)) (take (i + 1) (zip xs ys)) ≡ count_by (λ p. not (eqb p.0 p.1)) (take i (zip xs ys))
+  counted_same same =
+      counted_more
+      ∙ ap (λ b. count_by (λ p. not (eqb p.0 p.1)) (take i (zip xs ys)) + cond (not b) 1 0) (true_is _ (subst (λ z. T (eqb (get_or xs i 0) z)) same (eqb_refl (get_or xs i 0))))
+      ∙ add-zero _
+
+pub counted_all : (xs ys : List ℕ) (i : ℕ) → min (length xs) (length ys) ≤ i → count_by (λ p. not (eqb p.0 p.1)) (take i (zip xs ys)) ≡ count_by (λ p. not (eqb p.0 p.1)) (zip xs ys)
+counted_all xs ys i past = ap (count_by (λ (p : ℕ × ℕ). not (eqb p.0 p.1))) (take_all i (zip xs ys) (omega (arith, length-zip xs ys)))
 
 -- both words' lengths bound what is counted
 pub counted_most : (xs ys : List ℕ) → count_by (λ p. not (eqb p.0 p.1)) (zip xs ys) ≤ min (length xs) (length ys)

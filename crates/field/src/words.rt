@@ -26,7 +26,14 @@ pub fn distance(a: &[u8], b: &[u8]) -> usize
 fn differences(a: &[u8], b: &[u8]) -> usize
     ensures { result ≡ count_by (λ p. not (nat_eq p.0 p.1)) (zip a.now b.now) }
 {
-    a.iter().zip(b).filter(|(x, y)| x != y).count()
+    // By index: `filter` and `count` test one place after another, and here the compiler takes many at once.
+    let mut count = 0;
+    for i in 0..a.len().min(b.len()) {
+        if a[i] != b[i] {
+            count += 1;
+        }
+    }
+    count
 }
 
 // The sum of all symbols of a word.
@@ -63,11 +70,10 @@ pub fn evaluate<F: Field>(f: &F, x: u8, coefficients: &[u8]) -> Result<u8, Refus
 pub fn add_multiple<F: Field>(f: &F, out: &mut [u8], a: u8, v: &[u8])
     ensures { out.new ≡ plus_scaled_or_0 (F.Field.meaning f.now) a out.old v.now }
 {
-    // A loop over `out.iter_mut().zip(v)` leaves open what `out` holds after it.
-    for (i, x) in out.iter_mut().enumerate() {
-        if i < v.len() {
-            *x = add(f, *x, multiply(f, a, v[i]));
-        }
+    // By index: a loop over `out.iter_mut().zip(v)` leaves open what `out` holds after it, and a test at each place takes the
+    // corrector's time.
+    for i in 0..out.len().min(v.len()) {
+        out[i] = add(f, out[i], multiply(f, a, v[i]));
     }
 }
 

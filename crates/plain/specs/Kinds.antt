@@ -1,6 +1,6 @@
 -- The plain chain: levels of three simple kinds. Assumes nothing.
-use Rattle.std.specs.Prelude.{ℕ, zero, suc, ◌-◌, Bool, cond, not, ◌&&◌, ◌||◌, List, [], ◌∷◌, ◌++◌, length, drop, replicate, zip, Some, None, Ok, Err, Option, Result, ◌==◌, nat_le, nat_lt, slice_index}
-use Rattle.std.specs.List.{list_all, list_any}
+use Rattle.std.specs.Prelude.{ℕ, zero, suc, ◌-◌, Bool, true, cond, not, ◌&&◌, ◌||◌, List, [], ◌∷◌, ◌++◌, length, replicate, Some, None, Ok, Err, Option, Result, ◌==◌, nat_le, nat_lt, slice_index}
+use Rattle.std.specs.List.{list_any}
 use Rattle.std.specs.Option.{option_or}
 use Rattle.refusal.specs.declared.Refusal.{Refusal}
 use Rattle.refusal.specs.declared.Refusal.TheVariants.{BadArgument, ChainLength, LevelCount, LevelShape}
@@ -40,7 +40,9 @@ kind_word F m Repeated xs = replicate m (slice_index xs 0)
 
 -- kinds never fall from one level to the next
 abbrev pub rising : List ℕ → Bool
-rising ks = list_all (λ p. nat_le p.0 p.1) (zip ks (drop 1 ks))
+rising [] = true
+rising (k ∷ []) = true
+rising (k ∷ l ∷ ks) = nat_le k l && rising (l ∷ ks)
 
 abbrev pub has : ℕ → List ℕ → Bool
 has k ks = list_any (λ l. k == l) ks

@@ -1,5 +1,6 @@
 // The plain chain's calls.
 ghost use Rattle.std.specs.Prelude.{◌≡◌};
+ghost use Rattle.chain.specs.Held.{held};
 ghost use Rattle.plain.specs.Kinds.{plain, kind_told};
 ghost use Rattle.plain.specs.Lawful.{is_lawful};
 
@@ -11,7 +12,7 @@ use refusal::Refusal;
 impl<F: Field> Plain<F> {
     // The kind of a level that is there.
     fn kind_at(&self, level: usize) -> Result<Kind, Refusal>
-        ensures { result ≡ kind_told self.now.kinds level }
+        ensures { result ≡ kind_told (held self.now.kinds) level }
     {
         Kind::try_from(self.kinds.at(level).ok_or(Refusal::BadArgument)?)
     }
@@ -20,9 +21,9 @@ impl<F: Field> Plain<F> {
 impl<F: Field> Chain for Plain<F> {
     type Over = F;
 
-    ghost meaning = { λ c. plain (F.Field.meaning c.field) c.m c.kinds };
+    ghost meaning = { λ c. plain (F.Field.meaning c.field) c.m (held c.kinds) };
 
-    ghost lawful = { λ c. is_lawful (F.Field.lawful c.field) c.m c.kinds };
+    ghost lawful = { λ c. is_lawful (F.Field.lawful c.field) c.m (held c.kinds) };
 
     fn flaw(&self) -> Option<Refusal> {
         self.find_flaw()

@@ -1,5 +1,7 @@
 // The making of a plain chain, and its flaw.
-ghost use Rattle.std.specs.Prelude.{◌≡◌, ◌≤◌, ◌==◌, MatchResult, None, Some};
+ghost use Rattle.std.specs.Prelude.{◌≡◌, ◌≤◌, ◌==◌, MatchResult, None, Some, nat_le, zip, drop};
+ghost use Rattle.std.specs.List.{list_all};
+ghost use Rattle.chain.specs.Held.{held};
 ghost use Rattle.field.specs.Words.{symbols};
 ghost use Rattle.plain.specs.Kinds.{plain, plain_flaw, kinds_fit, rising, has, ones};
 
@@ -11,7 +13,7 @@ use refusal::Refusal;
 impl<F: Field> Plain<F> {
     // Never refused: whether the numbers are fit is told by the chain's flaw.
     pub fn new(field: F, m: usize, kinds: &[u8]) -> Plain<F>
-        ensures { plain (F.Field.meaning result.field) result.m result.kinds ≡ plain (F.Field.meaning field) m kinds.now }
+        ensures { plain (F.Field.meaning result.field) result.m (held result.kinds) ≡ plain (F.Field.meaning field) m kinds.now }
     {
         // More kinds than four have the same flaw as none.
         let kinds = LevelNumbers::of(kinds);
@@ -20,7 +22,7 @@ impl<F: Field> Plain<F> {
 
     // The least refusal that applies to the chain as it was made.
     pub(crate) fn find_flaw(&self) -> Option<Refusal>
-        ensures { result ≡ plain_flaw (F.Field.meaning self.now.field) self.now.m self.now.kinds }
+        ensures { result ≡ plain_flaw (F.Field.meaning self.now.field) self.now.m (held self.now.kinds) }
     {
         let kinds = self.kinds.as_slice();
         if self.m < 2 || self.m > 32 {
@@ -36,7 +38,7 @@ impl<F: Field> Plain<F> {
 
     // The chain, if it has no flaw. By the chain's own test: over the trait's `flaw` the answer would not tell what that test found.
     pub(crate) fn checked(&self) -> Result<&Self, Refusal>
-        ensures { MatchResult result (λ c. (c.now ≡ self.now) × (plain_flaw (F.Field.meaning self.now.field) self.now.m self.now.kinds ≡ None)) (λ flaw. plain_flaw (F.Field.meaning self.now.field) self.now.m self.now.kinds ≡ Some flaw) }
+        ensures { MatchResult result (λ c. (c.now ≡ self.now) × (plain_flaw (F.Field.meaning self.now.field) self.now.m (held self.now.kinds) ≡ None)) (λ flaw. plain_flaw (F.Field.meaning self.now.field) self.now.m (held self.now.kinds) ≡ Some flaw) }
     {
         // The arms say what the flaw is, which a closure handed to `map_or` would not know.
         match self.find_flaw() {
@@ -63,6 +65,14 @@ fn are_known(kinds: &[u8]) -> bool
 
 fn never_fall(kinds: &[u8]) -> bool
     ensures { result ≡ rising kinds.now }
+{
+    pairs_rise(kinds)
+}
+
+// The same of each kind beside the one after it. A function of its own, since `rising` goes by recursion: with it in these words, the
+// check finds no bound of what a chain tells, as `chain.length() + 1`, in code that calls it.
+fn pairs_rise(kinds: &[u8]) -> bool
+    ensures { result ≡ list_all (λ p. nat_le p.0 p.1) (zip kinds.now (drop 1 kinds.now)) }
 {
     kinds.iter().zip(kinds.iter().skip(1)).all(|(k, l)| k <= l)
 }

@@ -87,12 +87,13 @@ fn write_zero_sum<F: Field>(f: &F, message: &[u8], out: &mut [u8])
     out[n] = negate(f, total(f, message).unwrap_or(0));
 }
 
-// The number of places that do not hold x.
+// The number of places that do not hold x. A sum of 0s and 1s: `filter` and `count` test one place after another, and here the
+// compiler takes many at once.
 #[tactic(auto, using(crate::proofs::Blocks::others_counted))]
 fn count_others(block: &[u8], x: u8) -> usize
     ensures { result ≡ others x block.now }
 {
-    block.iter().filter(|y| **y != x).count()
+    block.iter().map(|y| usize::from(*y != x)).sum()
 }
 
 // The symbol whose word is near enough to the block to be the one that was meant.

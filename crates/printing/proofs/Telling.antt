@@ -1,5 +1,5 @@
 -- What a call answers, as text, from its contract. Assumes nothing.
-use Rattle.std.proofs.Common.{◌≡◌, ℕ, min, Bool, true, false, ◌&&◌, eqb, leb, List, [], ◌++◌, length, take, is_some, Some, None, Option, Result, unwrap_or, refl, ap, ◌∙◌, arith}
+use Rattle.std.proofs.Common.{◌≡◌, ℕ, min, Bool, true, false, ◌&&◌, eqb, leb, List, [], ◌++◌, length, take, is_some, Some, None, Ok, Err, Option, Result, unwrap_or, refl, ap, ◌∙◌, arith}
 use Rattle.std.specs.Option.{option_or}
 use Rattle.std.specs.Result as results
 use Rattle.std.proofs.lemmas.List.{take_all, take-append-le}
@@ -13,7 +13,16 @@ use Rattle.chain.specs.Meaning as chains
 use Rattle.code.specs.Answers as coded
 use Rattle.code.specs.Meaning as codes_of
 use Rattle.code.specs.Numbers.{code_flaw, k_of, n_of, codeword}
+use Rattle.printing.specs.declared.symbols.Untold.{Untold}
+use Rattle.printing.specs.declared.symbols.Untold.TheVariants.{Refused, OutOfMemory}
+use Rattle.printing.specs.Told.{IfTold}
 use Rattle.printing.specs.Texts.{told, told_unless, encoded_text, corrected_text, stripped_text, codeword_text}
+
+-- what follows of the text that is told
+pub told_so : {S : Type 0} (bytes : S → List ℕ) (P Q : List ℕ → Type 0) (r : Result S Untold) → ((t : List ℕ) → P t → Q t) → IfTold bytes r P → IfTold bytes r Q
+told_so bytes P Q (Ok s) f p = f _ p
+told_so bytes P Q (Err (Refused r)) f p = f _ p
+told_so bytes P Q (Err (OutOfMemory e)) f p = tt
 
 -- what a buffer of n symbols holds after all n were written
 pub written_back : (xs ys : List ℕ) (n : ℕ) → n ≡ length xs → take n (xs ++ ys) ≡ xs

@@ -1,5 +1,6 @@
 // The flaw of a chain, and the sizes of its levels.
 ghost use Rattle.std.specs.Prelude.{◌≡◌, ◌&&◌, length, nat_le, MatchResult, None, Some};
+ghost use Rattle.chain.specs.Held.{held};
 ghost use Rattle.field.specs.Answers.{provided};
 ghost use Rattle.reed_solomon.specs.Code.{falling, flaw, size_of};
 
@@ -10,7 +11,7 @@ use refusal::Refusal;
 impl<F: Field> ReedSolomon<F> {
     // The least refusal that applies to the chain as it was made.
     pub(crate) fn find_flaw(&self) -> Option<Refusal>
-        ensures { result ≡ flaw (F.Field.meaning self.now.field) self.now.m self.now.sizes }
+        ensures { result ≡ flaw (F.Field.meaning self.now.field) self.now.m (held self.now.sizes) }
     {
         let sizes = self.sizes.as_slice();
         if self.m < 1 || self.m > 32 || self.m > usize::from(self.field.order()) {
@@ -26,7 +27,7 @@ impl<F: Field> ReedSolomon<F> {
 
     // The chain, if it has no flaw. By the chain's own test: over the trait's `flaw` the answer would not tell what that test found.
     pub(crate) fn checked(&self) -> Result<&Self, Refusal>
-        ensures { MatchResult result (λ c. (c.now ≡ self.now) × (flaw (F.Field.meaning self.now.field) self.now.m self.now.sizes ≡ None)) (λ r. flaw (F.Field.meaning self.now.field) self.now.m self.now.sizes ≡ Some r) }
+        ensures { MatchResult result (λ c. (c.now ≡ self.now) × (flaw (F.Field.meaning self.now.field) self.now.m (held self.now.sizes) ≡ None)) (λ r. flaw (F.Field.meaning self.now.field) self.now.m (held self.now.sizes) ≡ Some r) }
     {
         // The arms say what the flaw is, which a closure handed to `map_or` would not know.
         match self.find_flaw() {
@@ -37,7 +38,7 @@ impl<F: Field> ReedSolomon<F> {
 
     // The size of a level that is there.
     pub(crate) fn size_at(&self, level: usize) -> Result<usize, Refusal>
-        ensures { result ≡ provided (nat_le 1 level && nat_le level (length self.now.sizes)) (size_of self.now.sizes level) }
+        ensures { result ≡ provided (nat_le 1 level && nat_le level (length (held self.now.sizes))) (size_of (held self.now.sizes) level) }
     {
         let size = self.sizes.at(level).ok_or(Refusal::BadArgument)?;
         Ok(usize::from(size))

@@ -2,6 +2,7 @@
 #![tactic(auto)]
 
 ghost use Rattle.std.specs.Prelude.{◌≡◌};
+ghost use Rattle.chain.specs.Held.{held};
 ghost use Rattle.reed_solomon.specs.Code.{reed_solomon};
 ghost use Rattle.reed_solomon.specs.Lawfulness.{chain_lawful};
 
@@ -31,7 +32,7 @@ pub struct ReedSolomon<F> {
 impl<F: Field> ReedSolomon<F> {
     // Never refused: whether the numbers are fit is told by the chain's flaw.
     pub fn new(field: F, m: usize, sizes: &[u8]) -> ReedSolomon<F>
-        ensures { reed_solomon (F.Field.meaning result.field) result.m result.sizes ≡ reed_solomon (F.Field.meaning field) m sizes.now }
+        ensures { reed_solomon (F.Field.meaning result.field) result.m (held result.sizes) ≡ reed_solomon (F.Field.meaning field) m sizes.now }
     {
         ReedSolomon {
             field,
@@ -44,9 +45,9 @@ impl<F: Field> ReedSolomon<F> {
 impl<F: Field> Chain for ReedSolomon<F> {
     type Over = F;
 
-    ghost meaning = { λ c. reed_solomon (F.Field.meaning c.field) c.m c.sizes };
+    ghost meaning = { λ c. reed_solomon (F.Field.meaning c.field) c.m (held c.sizes) };
 
-    ghost lawful = { λ c. chain_lawful (F.Field.meaning c.field) (F.Field.lawful c.field) c.m c.sizes };
+    ghost lawful = { λ c. chain_lawful (F.Field.meaning c.field) (F.Field.lawful c.field) c.m (held c.sizes) };
 
     fn flaw(&self) -> Option<Refusal> {
         self.find_flaw()

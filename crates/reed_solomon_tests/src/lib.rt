@@ -41,4 +41,19 @@ mod tests {
         assert!(rt; ReedSolomon::new(Gf16, 15, &[]).flaw() == Some(Refusal::LevelCount));
         assert!(rt; ReedSolomon::new(Gf16, 15, &[2, 3]).flaw() == Some(Refusal::LevelShape));
     }
+
+    fn length_of(chain: ReedSolomon<Gf16>) -> usize {
+        chain.length()
+    }
+
+    // A chain is `Copy`: handed on by value, it is there for the next call.
+    fn longer_of_copies() -> usize {
+        let chain = ReedSolomon::new(Gf16, 15, &[11, 9, 2]);
+        length_of(chain).max(length_of(chain))
+    }
+
+    #[test]
+    fn copied(rt: HostRuntime) {
+        assert!(rt; longer_of_copies() == 15);
+    }
 }

@@ -1,9 +1,10 @@
 use Rattle.std.proofs.Common.{T, ◌∙◌, subst}
+use Rattle.chain.specs.Held.{held}
 use Rattle.plain.proofs.Answering.{stripped}
 use Rattle.plain.proofs.levels.PlainChain.strip.Goals as goal
 
 pub returns : goal.returns
 returns g c =
     let self = c.args.self.now in
-    stripped (g.met.F.Field.lawful self.field) self.m self.kinds c.in_ok-checked.ensures.1 c.args.level c.in_ok-kind.kind c.in_ok-kind.ensures c.args.block.now c.args.out.now
+    stripped (g.met.F.Field.lawful self.field) self.m (held self.kinds) c.in_ok-checked.ensures.1 c.args.level c.in_ok-kind.kind c.in_ok-kind.ensures c.args.block.now c.args.out.now
     (record { long = c.if-block-self.false; all = subst T c.if-not-are_symbols.ensures tt }) (c.if-out-size.false ∙ c.size.ensures) c.strip.result c.strip.new.out c.strip.ensures
